@@ -1,0 +1,5 @@
+pub mod Code
+pub mod Table
+pub mod Spans
+pub mod Layout
+pub mod Refusals
