@@ -1,3 +1,5 @@
 pub mod Stands
 pub mod Heads
 pub mod Listed
+pub mod Stacks
+pub mod Moving

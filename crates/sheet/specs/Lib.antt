@@ -3,3 +3,5 @@ pub mod Table
 pub mod Spans
 pub mod Layout
 pub mod Refusals
+pub mod Checks
+pub mod Nests

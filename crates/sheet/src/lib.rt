@@ -1,5 +1,10 @@
 // Judge sheets: their lines, the layout of their bytes, and the reader.
 mod faults;
+mod headers;
 mod lines;
+mod moves;
+mod nesting;
+mod rules;
 pub use faults::ReadFault;
+pub use headers::Sheet;
 pub use lines::Line;
