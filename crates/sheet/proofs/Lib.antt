@@ -3,3 +3,4 @@ pub mod Heads
 pub mod Listed
 pub mod Stacks
 pub mod Moving
+pub mod Stepping

@@ -5,3 +5,4 @@ pub mod Layout
 pub mod Refusals
 pub mod Checks
 pub mod Nests
+pub mod Results

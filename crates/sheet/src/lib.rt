@@ -1,4 +1,5 @@
 // Judge sheets: their lines, the layout of their bytes, and the reader.
+mod checking;
 mod faults;
 mod headers;
 mod lines;
