@@ -4,3 +4,6 @@ pub mod Listed
 pub mod Stacks
 pub mod Moving
 pub mod Stepping
+pub mod Bytes
+pub mod Sound
+pub mod Complete

@@ -70,17 +70,13 @@ module _ (cells : ℕ) (bs : List ℕ) (at : ℕ) where
   abbrev then-lines : ℕ → Result (List Open) ReadFault → Option ReadFault
   then-lines m r = elim r [ Ok os ↦ linesFault cells bs (at + 8) m os | Err f ↦ Some f ]
 
-  -- lines: those from the k-th on, of n, are left
-  module _ (os : List Open) (k n : ℕ) (more : k < n) where
-    line-more : n - k ≡ suc (n - (k + 1))
-    line-more = omega arith
+  -- lines: m are left, the one at `at` and n more
+  module _ (os : List Open) (m n : ℕ) (more : m ≡ suc n) where
+    pub line-said : (os′ : List Open) → lineSays cells bs at os ≡ Ok os′ → linesFault cells bs at m os ≡ linesFault cells bs (at + 8) n os′
+    line-said os′ h = ap (λ k. linesFault cells bs at k os) more ∙ ap (then-lines n) h
 
-    pub line-next : (os′ : List Open) → lineSays cells bs at os ≡ Ok os′ →
-        linesFault cells bs at (n - k) os ≡ linesFault cells bs (at + 8) (n - (k + 1)) os′
-    line-next os′ h = ap (λ m. linesFault cells bs at m os) line-more ∙ ap (then-lines (n - (k + 1))) h
-
-    pub line-bad : (f : ReadFault) → lineSays cells bs at os ≡ Err f → linesFault cells bs at (n - k) os ≡ Some f
-    line-bad f h = ap (λ m. linesFault cells bs at m os) line-more ∙ ap (then-lines (n - (k + 1))) h
+    pub line-bad : (f : ReadFault) → lineSays cells bs at os ≡ Err f → linesFault cells bs at m os ≡ Some f
+    line-bad f h = ap (λ k. linesFault cells bs at k os) more ∙ ap (then-lines n) h
 
   pub ends-open : (os : List Open) (n : ℕ) → n ≡ 0 → 0 < length os → linesFault cells bs at n os ≡ Some (Nesting at)
   ends-open [] n e l = absurd (omega arith)

@@ -6,3 +6,4 @@ pub mod Refusals
 pub mod Checks
 pub mod Nests
 pub mod Results
+pub mod Reading
