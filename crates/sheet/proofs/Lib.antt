@@ -7,3 +7,4 @@ pub mod Stepping
 pub mod Bytes
 pub mod Sound
 pub mod Complete
+pub mod Verdicts

@@ -21,7 +21,7 @@ fn word(bytes: &[u8], at: usize) -> usize
     usize::from(bytes[at]) + 256 * usize::from(bytes[at + 1])
 }
 
-fn header(bytes: &[u8]) -> Header
+pub(crate) fn header(bytes: &[u8]) -> Header
     requires { ⌜ 14 ≤ length (now bytes) ⌝ }
     ensures value { λ r. ⌜ r ≡ headerOf (now (bytes .entry)) ⌝ }
     ensures bytes { λ _. ⌜ Bytes (now (bytes .entry)) ⌝ }
@@ -29,7 +29,7 @@ fn header(bytes: &[u8]) -> Header
     Header { cells: word(bytes, 0), marked: word(bytes, 2), lines: word(bytes, 4), verdict: word(bytes, 6) }
 }
 
-fn check_limits(h: Header) -> Result<(), ReadFault>
+pub(crate) fn check_limits(h: Header) -> Result<(), ReadFault>
     ensures { λ r. ⌜ found r ≡ limitFault h ⌝ }
 {
     if h.cells < 1 || h.cells > 64 {
@@ -47,7 +47,7 @@ fn check_limits(h: Header) -> Result<(), ReadFault>
     Ok(())
 }
 
-fn check_offsets(bytes: &[u8], h: Header) -> Result<(), ReadFault>
+pub(crate) fn check_offsets(bytes: &[u8], h: Header) -> Result<(), ReadFault>
     requires whole { ⌜ 14 ≤ length (now bytes) ⌝ }
     requires limits { ⌜ (h .marked ≤ 64) × (h .lines ≤ 512) ⌝ }
     ensures { λ r. ⌜ found r ≡ offsetFault (now (bytes .entry)) h ⌝ }
@@ -93,7 +93,7 @@ fn allowed(cells: usize, rule: Rule, b: u8) -> bool
 }
 
 // The marks rise, and each is a cell of the sheet.
-fn check_marks(bytes: &[u8], h: Header) -> Result<(), ReadFault>
+pub(crate) fn check_marks(bytes: &[u8], h: Header) -> Result<(), ReadFault>
     requires { ⌜ 14 + h .marked ≤ length (now bytes) ⌝ }
     ensures { λ r. ⌜ found r ≡ marksFault (h .cells) (now (bytes .entry)) 0 14 (h .marked) ⌝ }
 {
@@ -134,7 +134,7 @@ fn check_line(bytes: &[u8], at: usize, cells: usize, nest: &mut Nest) -> Result<
 }
 
 // Line after line, and nothing is open at the end.
-fn check_lines(bytes: &[u8], h: Header) -> Result<(), ReadFault>
+pub(crate) fn check_lines(bytes: &[u8], h: Header) -> Result<(), ReadFault>
     requires { ⌜ 14 + h .marked + 8 * h .lines ≤ length (now bytes) ⌝ }
     ensures { λ r. ⌜ found r ≡ linesFault (h .cells) (now (bytes .entry)) (14 + h .marked) (h .lines) [] ⌝ }
 {

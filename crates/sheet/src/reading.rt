@@ -1,0 +1,41 @@
+// The reader: from a sheet's bytes to its numbers, marks and lines.
+ghost use mathlib.Core.Path.{_≡_};
+ghost use Prim.Native.Nat.{ℕ, _+_, _*_, _<_, _≤_};
+ghost use lib.ListN.{length, getD};
+ghost use Rattle.std.specs.Results.{Cases};
+ghost use Rattle.sheet.specs.Checks.{headerOf, sheetFault};
+ghost use Rattle.sheet.specs.Reading.{Taken};
+ghost use Rattle.sheet.specs.Results.{found, Bytes};
+use crate::checking::check_limits;
+use crate::checking::check_lines;
+use crate::checking::check_marks;
+use crate::checking::check_offsets;
+use crate::checking::header;
+use crate::faults::ReadFault;
+use crate::headers::Header;
+use crate::headers::Sheet;
+
+// Every check of a sheet, in order.
+fn checked(bytes: &[u8]) -> Result<Header, ReadFault>
+    ensures first { λ r. ⌜ found r ≡ sheetFault (now (bytes .entry)) ⌝ }
+    ensures whole { λ r. ⌜ Cases r (λ h. (h ≡ headerOf (now (bytes .entry))) × Bytes (now (bytes .entry))) (λ _. Unit {0}) ⌝ }
+{
+    if bytes.len() < 14 {
+        return Err(ReadFault::Short);
+    }
+    let h = header(bytes);
+    check_limits(h)?;
+    check_offsets(bytes, h)?;
+    check_marks(bytes, h)?;
+    check_lines(bytes, h)?;
+    Ok(h)
+}
+
+// Checks a sheet's bytes: the sheet's numbers and marks, or its first fault.
+pub fn check(bytes: &[u8]) -> Result<Sheet<'_>, ReadFault>
+    ensures first { λ r. ⌜ found r ≡ sheetFault (now (bytes .entry)) ⌝ }
+    ensures taken { λ r. ⌜ Taken (now (bytes .entry)) r ⌝ }
+{
+    let h = checked(bytes)?;
+    Ok(Sheet { cells: h.cells, lines: h.lines, verdict: h.verdict, marks: &bytes[14..14 + h.marked] })
+}
