@@ -8,3 +8,5 @@ pub mod Bytes
 pub mod Sound
 pub mod Complete
 pub mod Verdicts
+pub mod Blocks
+pub mod Filled

@@ -4,12 +4,8 @@ use mathlib.Core.List.{List, [], _∷_, _++_}
 use Prim.Native.Nat.{ℕ, suc, _+_, _<_, _≤_}
 use native.Mathlib.Omega.{arith}
 use lib.ListN.{getD, length, take, drop}
+pub use Rattle.sheet.specs.Filling.{Stands}
 use Rattle.std.proofs.shelf.Lists.{append-assoc, getD-at, length-push, drop-more, take-append-drop}
-
--- the list us stands in xs from the place i on
-abbrev pub Stands : {A : Type 0} → A → List A → ℕ → List A → Type 0
-Stands d xs i [] = Unit {0}
-Stands d xs i (u ∷ us) = (getD xs i d ≡ u) × Stands d xs (i + 1) us
 
 module _ {A : Type 0} (d : A) where
   pub stands-moved : (xs : List A) (i j : ℕ) (us : List A) → i ≡ j → Stands d xs i us → Stands d xs j us

@@ -7,3 +7,4 @@ pub mod Checks
 pub mod Nests
 pub mod Results
 pub mod Reading
+pub mod Filling

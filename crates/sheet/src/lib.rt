@@ -1,6 +1,7 @@
 // Judge sheets: their lines, the layout of their bytes, and the reader.
 mod checking;
 mod faults;
+mod filling;
 mod headers;
 mod lines;
 mod moves;
