@@ -1,22 +1,33 @@
 -- What the reader's answers mean: a sheet that is taken is a program, and one that is refused is none.
 use mathlib.Core.Path.{_≡_, refl, sym, _∙_, ap, subst}
+use mathlib.Core.Logic.{inl, inr}
 use mathlib.Core.List.{List, [], _∷_, _++_}
 use Prim.Native.Nat.{ℕ, _+_, _-_, _*_, _<_, _≤_}
 use native.Mathlib.Omega.{arith}
+use lib.Dec.{leb}
 use lib.ListN.{getD, length, take, drop}
+use Rattle.std.proofs.shelf.Tests.{le-leb}
 use denote.Ref.{now}
 use Rattle.std.specs.declared.option.Option.{Option}
 use Rattle.std.specs.declared.option.Option.the-variants.{Some, None}
+use Rattle.std.proofs.shelf.Lists.{length-append, length-drop, getD-drop, ext-getD}
 use Rattle.sheet.specs.Code.{sizeOf}
-use Rattle.sheet.specs.Layout.{Program}
-use Rattle.sheet.specs.Checks.{headerOf, sheetFault}
+use Rattle.sheet.specs.Table.{linesOf}
+use Rattle.sheet.specs.Layout.{Program, header, codeBytes, sheetBytes}
+use Rattle.sheet.specs.Checks.{wordAt, unless, orElse, headerOf, sheetFault, readFault}
 use Rattle.sheet.specs.Results.{Bytes}
-use Rattle.sheet.specs.Reading.{Laid, Tells}
+use Rattle.sheet.specs.Reading.{Laid, Tells, Filled}
+use Rattle.sheet.specs.Filling.{Begins, FilledFrom}
 use Rattle.sheet.specs.declared.faults.ReadFault.{ReadFault}
+use Rattle.sheet.specs.declared.faults.ReadFault.the-variants.{Table}
 use Rattle.sheet.specs.declared.headers.Header.{Header}
 use Rattle.sheet.specs.declared.headers.Sheet.{Sheet}
-use Rattle.sheet.proofs.Stands.{stands-take}
-use Rattle.sheet.proofs.Sound.{Sheeted, sheeted}
+use Rattle.sheet.specs.declared.lines.Line.{Line}
+use Rattle.sheet.specs.declared.lines.Line.the-variants.{Work}
+use Rattle.sheet.proofs.Stands.{Stands, stands-take, stands-split, stands-self, stands-moved, stands-front}
+use Rattle.sheet.proofs.Stepping.{passed}
+use Rattle.sheet.proofs.Listed.{lines-size, spans-to-list}
+use Rattle.sheet.proofs.Sound.{Sheeted, sheeted, code-length, word-of}
 use Rattle.sheet.proofs.Complete.{layout-passes}
 
 pub refused : (bs : List ℕ) (f : ReadFault) → Some f ≡ sheetFault bs → (p : Program) → Laid bs p → ⊥
@@ -36,3 +47,43 @@ module _ (bs : List ℕ) (h : Header) (is : h ≡ headerOf bs) (bytes : Bytes bs
           lines = l ∙ ap (λ y. y .lines) is ∙ w .lines;
           verdict = v ∙ ap (λ y. y .verdict) is ∙ w .verdict;
           marks = m ∙ ap (λ y. take y (drop 14 bs)) n ∙ stands-take 0 bs 14 (w .program .marks) (w .marks) (let long = w .long in omega arith) })
+
+-- where the parts of a program lie among its bytes
+module _ (bs : List ℕ) (p : Program) (laid : Laid bs p) where
+  pub laid-lines : wordAt bs 4 ≡ sizeOf (p .code)
+  laid-lines = ap (λ y. wordAt y 4) (laid .bytes) ∙ word-of (sizeOf (p .code))
+
+  pub laid-long : length bs ≡ 14 + length (p .marks) + 8 * sizeOf (p .code)
+  laid-long = let l = code-length (p .code) in ap length (laid .bytes) ∙ simp length-append (omega arith)
+
+  pub laid-begins : (base n : ℕ) → base ≡ 14 + length (p .marks) → n ≡ sizeOf (p .code) → Begins bs base n 0 (p .code)
+  laid-begins base n e s =
+      let ts = sheetBytes p in
+      let whole = stands-split 0 ts 0 (header p) (p .marks ++ codeBytes (p .code)) (stands-self 0 ts) .1 in
+      let lines = stands-split 0 ts 14 (p .marks) (codeBytes (p .code)) whole .1 in
+      let here = subst (λ y. Stands 0 y (14 + length (p .marks)) (codeBytes (p .code))) (sym (laid .bytes)) lines in
+      record { here = stands-moved 0 bs (14 + length (p .marks)) (base + 8 * 0) (codeBytes (p .code)) (omega arith) here; within = omega arith; closes = inl (omega arith) }
+
+-- the table after the whole code has been filled in
+pub table-filled : (bs : List ℕ) (base n r : ℕ) (p : Program) (before after : List Line) → n ≡ sizeOf (p .code) → n ≤ length before →
+    Begins bs base n 0 (p .code) → FilledFrom bs base n 0 before after r → Filled p before after
+table-filled bs base n r p before after e room b d =
+    let g = d .spans (p .code) b in
+    let k = sizeOf (p .code) in
+    let rk : r ≡ k = let e₁ = g .0 in omega arith in
+    let ls = linesOf 0 (p .code) in
+    let len : length ls ≡ k = lines-size 0 (p .code) in
+    let long = d .long in
+    let front = stands-front (Work 0 0 0 0) after ls (spans-to-list after 0 r (p .code) (g .1)) (omega arith) in
+    let rest : drop (length ls) after ≡ drop k before =
+        ap (λ y. drop y after) len ∙
+        ext-getD (Work 0 0 0 0) (drop k after) (drop k before) (simp length-drop (omega arith))
+          (λ i l. getD-drop k after i (Work 0 0 0 0) ∙ d .outside (k + i) (inr (omega arith)) ∙ sym (getD-drop k before i (Work 0 0 0 0))) in
+    record { room = omega arith; lines = front ∙ ap (λ y. ls ++ y) rest }
+
+-- a line table that has room for the sheet is no fault
+module _ (bs : List ℕ) (n : ℕ) (p : Program) (laid : Laid bs p) (none : None ≡ sheetFault bs) where
+  pub roomy : sizeOf (p .code) ≤ n → None ≡ readFault bs n
+  roomy l =
+      let e = laid-lines bs p laid in
+      sym (ap (λ y. orElse y (unless (leb (wordAt bs 4) n) Table None)) (sym none) ∙ passed _ _ _ (le-leb (wordAt bs 4) n (omega arith)))

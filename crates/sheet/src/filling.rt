@@ -16,7 +16,7 @@ fn number(bytes: &[u8], at: usize) -> u32
 
 // Fills in the block that begins at line `from`, of `count` lines whose bytes begin at `base`; answers the line
 // after it.
-fn fill_block(bytes: &[u8], base: usize, count: usize, from: usize, table: &mut [Line]) -> usize
+pub(crate) fn fill_block(bytes: &[u8], base: usize, count: usize, from: usize, table: &mut [Line]) -> usize
     requires code { ⌜ ((c : Code) × Begins (now bytes) base count from c) ⌝ }
     requires ordered { ⌜ from ≤ count ⌝ }
     requires room { ⌜ count ≤ length (now table) ⌝ }

@@ -12,3 +12,4 @@ pub use faults::ReadFault;
 pub use headers::Sheet;
 pub use lines::Line;
 pub use reading::check;
+pub use reading::read;

@@ -3,8 +3,8 @@ ghost use mathlib.Core.Path.{_≡_};
 ghost use Prim.Native.Nat.{ℕ, _+_, _*_, _<_, _≤_};
 ghost use lib.ListN.{length, getD};
 ghost use Rattle.std.specs.Results.{Cases};
-ghost use Rattle.sheet.specs.Checks.{headerOf, sheetFault};
-ghost use Rattle.sheet.specs.Reading.{Taken};
+ghost use Rattle.sheet.specs.Checks.{headerOf, sheetFault, readFault};
+ghost use Rattle.sheet.specs.Reading.{Taken, Reads};
 ghost use Rattle.sheet.specs.Results.{found, Bytes};
 use crate::checking::check_limits;
 use crate::checking::check_lines;
@@ -12,8 +12,10 @@ use crate::checking::check_marks;
 use crate::checking::check_offsets;
 use crate::checking::header;
 use crate::faults::ReadFault;
+use crate::filling::fill_block;
 use crate::headers::Header;
 use crate::headers::Sheet;
+use crate::lines::Line;
 
 // Every check of a sheet, in order.
 fn checked(bytes: &[u8]) -> Result<Header, ReadFault>
@@ -38,4 +40,17 @@ pub fn check(bytes: &[u8]) -> Result<Sheet<'_>, ReadFault>
 {
     let h = checked(bytes)?;
     Ok(Sheet { cells: h.cells, lines: h.lines, verdict: h.verdict, marks: &bytes[14..14 + h.marked] })
+}
+
+// Reads a sheet into the line table, which begins with its lines then, or answers the first fault.
+pub fn read<'a>(bytes: &'a [u8], table: &mut [Line]) -> Result<Sheet<'a>, ReadFault>
+    ensures first { λ r. ⌜ found r ≡ readFault (now (bytes .entry)) (length (now (table .entry))) ⌝ }
+    ensures reads { λ r. ⌜ Reads (now (bytes .entry)) (now (table .entry)) (now (table .exit)) r ⌝ }
+{
+    let sheet = check(bytes)?;
+    if table.len() < sheet.lines {
+        return Err(ReadFault::Table);
+    }
+    fill_block(bytes, 14 + sheet.marks.len(), sheet.lines, 0, table);
+    Ok(sheet)
 }
