@@ -49,15 +49,21 @@ module _ (bs : List ℕ) (base count : ℕ) where
   -- the block c ends where the block r, further on, does
   ends : (i j : ℕ) (c r : Code) → i + sizeOf c ≡ j + sizeOf r → Begins bs base count i c → Here bs (base + 8 * j) (codeBytes r) → Begins bs base count j r
   ends i j c r e b h =
-      record { here = h; within = let w = b .within in omega arith;
-        closes = subst (λ y. (y ≡ count) ⊎ ((getD bs (base + 8 * y) 0 ≡ 4) ⊎ (getD bs (base + 8 * y) 0 ≡ 5))) e (b .closes) }
+      record {
+        here = h;
+        within = let w = b .within in omega arith;
+        closes = subst (λ y. (y ≡ count) ⊎ ((getD bs (base + 8 * y) 0 ≡ 4) ⊎ (getD bs (base + 8 * y) 0 ≡ 5))) e (b .closes);
+      }
 
   -- the block p ends before an else or an end
   before : (i j : ℕ) (p : Code) → Here bs (base + 8 * i) (codeBytes p) → j ≡ i + sizeOf p → j < count →
       (byteAt bs (base + 8 * j) ≡ 4) ⊎ (byteAt bs (base + 8 * j) ≡ 5) → Begins bs base count i p
   before i j p h e l k =
-      record { here = h; within = omega arith;
-        closes = inr (subst (λ y. (byteAt bs (base + 8 * y) ≡ 4) ⊎ (byteAt bs (base + 8 * y) ≡ 5)) e k) }
+      record {
+        here = h;
+        within = omega arith;
+        closes = inr (subst (λ y. (byteAt bs (base + 8 * y) ≡ 4) ⊎ (byteAt bs (base + 8 * y) ≡ 5)) e k);
+      }
 
   -- after a code, a line and what follows it
   split : (i j : ℕ) (c : Code) (us : List ℕ) → j ≡ i + sizeOf c → Here bs (base + 8 * i) (codeBytes c ++ us) → Here bs (base + 8 * i) (codeBytes c) × Here bs (base + 8 * j) us
@@ -139,10 +145,15 @@ module _ (bs : List ℕ) (base count : ℕ) where
         let s₂ = next e 4 0 0 0 0 0 0 0 (codeBytes q ++ (otherBytes 5 0 0 ++ codeBytes r)) (s₁ .1) in
         let s₃ = split (e + 1) z q (otherBytes 5 0 0 ++ codeBytes r) refl s₂ in
         let s₄ = next z 5 0 0 0 0 0 0 0 (codeBytes r) (s₃ .1) in
-        record { first = p; second = q; rest = r; is = cc;
+        record {
+          first = p;
+          second = q;
+          rest = r;
+          is = cc;
           begins-first = before (i + 1) e p (s₁ .0) refl (omega arith) (inl (s₁ .1 .0));
           begins-second = before (e + 1) z q (s₃ .0) refl (omega arith) (inr (s₃ .1 .0));
-          begins-rest = ends i (z + 1) (choose x p q r) r (omega arith) b s₄ }
+          begins-rest = ends i (z + 1) (choose x p q r) r (omega arith) b s₄;
+        }
     has-if (repeat x n p r) b k = let h = b .here .0 in absurd (omega arith)
 
     pub has-loop : (c : Code) → Begins bs base count i c → byteAt bs (base + 8 * i) ≡ 6 → HasLoop i c
@@ -159,9 +170,13 @@ module _ (bs : List ℕ) (base count : ℕ) where
         let s₀ = next i 6 x n 0 0 0 0 0 (codeBytes p ++ (otherBytes 5 0 0 ++ codeBytes r)) h in
         let s₁ = split (i + 1) z p (otherBytes 5 0 0 ++ codeBytes r) refl s₀ in
         let s₂ = next z 5 0 0 0 0 0 0 0 (codeBytes r) (s₁ .1) in
-        record { first = p; rest = r; is = cc;
+        record {
+          first = p;
+          rest = r;
+          is = cc;
           begins-first = before (i + 1) z p (s₁ .0) refl (omega arith) (inr (s₁ .1 .0));
-          begins-rest = ends i (z + 1) (repeat x n p r) r (omega arith) b s₂ }
+          begins-rest = ends i (z + 1) (repeat x n p r) r (omega arith) b s₂;
+        }
 
     -- a line of no other kind closes the block
     pub has-none : (c : Code) → Begins bs base count i c → (byteAt bs (base + 8 * i) ≡ 1 → ⊥) → (byteAt bs (base + 8 * i) ≡ 2 → ⊥) →

@@ -100,7 +100,7 @@ module _ (cells : ℕ) (bs : List ℕ) where
         let l₂ = bytes (p + 1 + 1) in
         let l₃ = bytes (p + 1 + 1 + 1) in
         is-literal _ (byteAt bs p + 256 * byteAt bs (p + 1) + 65536 * byteAt bs (p + 1 + 1) + 16777216 * byteAt bs (p + 1 + 1 + 1)) (u .0) (omega arith) e
-          (e, (refl, (u .1 .0, (u .1 .1 .0, (omega arith, (omega arith, (omega arith, (omega arith, tt))))))))
+        (e, (refl, (u .1 .0, (u .1 .1 .0, (omega arith, (omega arith, (omega arith, (omega arith, tt))))))))
 
     line-if : byteAt bs at ≡ 3 → bytesFault cells bs at (rulesOf 3) ≡ None → LineIs at
     line-if e h = let u = obeyed at (rulesOf 3) h .1 in is-if _ (u .0) e (e, (refl, u .1))
@@ -119,6 +119,7 @@ module _ (cells : ℕ) (bs : List ℕ) where
       where
         k : ℕ
         k = byteAt bs at
+
         go₅ : (t : Bool) → eqb (byteAt bs at) 4 ≡ t → (byteAt bs at ≡ 1 → ⊥) → (byteAt bs at ≡ 2 → ⊥) → (byteAt bs at ≡ 3 → ⊥) → (byteAt bs at ≡ 6 → ⊥) → bytesFault cells bs at (rulesOf 4) ≡ None → LineIs at
         go₅ true e n₁ n₂ n₃ n₆ h = let is = eqb-true (byteAt bs at) 4 e in is-else is (plain 4 is h)
         go₅ false e n₁ n₂ n₃ n₆ h =
@@ -126,15 +127,19 @@ module _ (cells : ℕ) (bs : List ℕ) where
             let r = obeyed at (rulesOf 4) h .0 in
             let is : byteAt bs at ≡ 5 = omega arith in
             is-end is (plain 5 is h)
+
         go₄ : (t : Bool) → eqb (byteAt bs at) 6 ≡ t → (byteAt bs at ≡ 1 → ⊥) → (byteAt bs at ≡ 2 → ⊥) → (byteAt bs at ≡ 3 → ⊥) → bytesFault cells bs at (cond t (rulesOf 6) (rulesOf 4)) ≡ None → LineIs at
         go₄ true e n₁ n₂ n₃ h = line-loop (eqb-true (byteAt bs at) 6 e) h
         go₄ false e n₁ n₂ n₃ h = go₅ (eqb (byteAt bs at) 4) refl n₁ n₂ n₃ (eqb-false (byteAt bs at) 6 e) h
+
         go₃ : (t : Bool) → eqb (byteAt bs at) 3 ≡ t → (byteAt bs at ≡ 1 → ⊥) → (byteAt bs at ≡ 2 → ⊥) → bytesFault cells bs at (cond t (rulesOf 3) (cond (eqb (byteAt bs at) 6) (rulesOf 6) (rulesOf 4))) ≡ None → LineIs at
         go₃ true e n₁ n₂ h = line-if (eqb-true (byteAt bs at) 3 e) h
         go₃ false e n₁ n₂ h = go₄ (eqb (byteAt bs at) 6) refl n₁ n₂ (eqb-false (byteAt bs at) 3 e) h
+
         go₂ : (t : Bool) → eqb (byteAt bs at) 2 ≡ t → (byteAt bs at ≡ 1 → ⊥) → bytesFault cells bs at (cond t (rulesOf 2) (cond (eqb (byteAt bs at) 3) (rulesOf 3) (cond (eqb (byteAt bs at) 6) (rulesOf 6) (rulesOf 4)))) ≡ None → LineIs at
         go₂ true e n₁ h = line-literal (eqb-true (byteAt bs at) 2 e) h
         go₂ false e n₁ h = go₃ (eqb (byteAt bs at) 3) refl n₁ (eqb-false (byteAt bs at) 2 e) h
+
         go₁ : (t : Bool) → eqb (byteAt bs at) 1 ≡ t → bytesFault cells bs at (cond t (rulesOf 1) (cond (eqb (byteAt bs at) 2) (rulesOf 2) (cond (eqb (byteAt bs at) 3) (rulesOf 3) (cond (eqb (byteAt bs at) 6) (rulesOf 6) (rulesOf 4))))) ≡ None → LineIs at
         go₁ true e h = line-work (eqb-true (byteAt bs at) 1 e) h
         go₁ false e h = go₂ (eqb (byteAt bs at) 2) refl (eqb-false (byteAt bs at) 1 e) h

@@ -57,13 +57,13 @@ module _ (cells : ℕ) (bs : List ℕ) where
       let s = stands-split 0 bs at (workBytes t o a b) (codeBytes r) h in
       let e : at + 8 + 8 * sizeOf r ≡ at + 8 * (1 + sizeOf r) = omega arith in
       line-said cells bs at os (1 + sizeOf r + n) (sizeOf r + n) (omega arith) os
-        (said at 1 (t ∷ o ∷ a ∷ b ∷ 0 ∷ 0 ∷ 0 ∷ []) os os (s .0) (refl, (lt-ltb t cells (k .0), (le-leb o 7 (k .1), (lt-ltb a cells (k .2), (lt-ltb b cells (k .3), (refl, (refl, (refl, tt)))))))) refl)
+      (said at 1 (t ∷ o ∷ a ∷ b ∷ 0 ∷ 0 ∷ 0 ∷ []) os os (s .0) (refl, (lt-ltb t cells (k .0), (le-leb o 7 (k .1), (lt-ltb a cells (k .2), (lt-ltb b cells (k .3), (refl, (refl, (refl, tt)))))))) refl)
       ∙ code-passes r (at + 8) n os (s .1) (k .4) ∙ ap (λ y. linesFault cells bs y n os) e
   code-passes (literal t v r) at n os h k =
       let s = stands-split 0 bs at (literalBytes t v) (codeBytes r) h in
       let e : at + 8 + 8 * sizeOf r ≡ at + 8 * (1 + sizeOf r) = omega arith in
       line-said cells bs at os (1 + sizeOf r + n) (sizeOf r + n) (omega arith) os
-        (said at 2 (t ∷ 0 ∷ 0 ∷ v % 256 ∷ v / 256 % 256 ∷ v / 65536 % 256 ∷ v / 16777216 ∷ []) os os (s .0) (refl, (lt-ltb t cells (k .0), (refl, (refl, (refl, (refl, (refl, (refl, tt)))))))) refl)
+      (said at 2 (t ∷ 0 ∷ 0 ∷ v % 256 ∷ v / 256 % 256 ∷ v / 65536 % 256 ∷ v / 16777216 ∷ []) os os (s .0) (refl, (lt-ltb t cells (k .0), (refl, (refl, (refl, (refl, (refl, (refl, tt)))))))) refl)
       ∙ code-passes r (at + 8) n os (s .1) (k .2) ∙ ap (λ y. linesFault cells bs y n os) e
   code-passes (choose x p q r) at n os h k =
       let s₀ = stands-split 0 bs at (otherBytes 3 x 0) (codeBytes p ++ (otherBytes 4 0 0 ++ (codeBytes q ++ (otherBytes 5 0 0 ++ codeBytes r)))) h in
@@ -78,13 +78,13 @@ module _ (cells : ℕ) (bs : List ℕ) where
       let n₁ = sizeOf p + suc n₂ in
       let e : a₂ + 8 + 8 * sizeOf r ≡ at + 8 * (3 + sizeOf p + sizeOf q + sizeOf r) = omega arith in
       line-said cells bs at os (3 + sizeOf p + sizeOf q + sizeOf r + n) n₁ (omega arith) (First ∷ os)
-        (said at 3 (x ∷ 0 ∷ 0 ∷ 0 ∷ 0 ∷ 0 ∷ 0 ∷ []) os (First ∷ os) (s₀ .0) (refl, (lt-ltb x cells (k .0), (refl, (refl, (refl, (refl, (refl, (refl, tt)))))))) (opens First os (omega arith)))
+      (said at 3 (x ∷ 0 ∷ 0 ∷ 0 ∷ 0 ∷ 0 ∷ 0 ∷ []) os (First ∷ os) (s₀ .0) (refl, (lt-ltb x cells (k .0), (refl, (refl, (refl, (refl, (refl, (refl, tt)))))))) (opens First os (omega arith)))
       ∙ code-passes p (at + 8) (suc n₂) (First ∷ os) (s₁ .0) (deeper os p (k .2))
       ∙ line-said cells bs a₁ (First ∷ os) (suc n₂) n₂ refl (Second ∷ os)
-        (said a₁ 4 (0 ∷ 0 ∷ 0 ∷ 0 ∷ 0 ∷ 0 ∷ 0 ∷ []) (First ∷ os) (Second ∷ os) (s₂ .0) (refl, (refl, (refl, (refl, (refl, (refl, (refl, (refl, tt)))))))) refl)
+      (said a₁ 4 (0 ∷ 0 ∷ 0 ∷ 0 ∷ 0 ∷ 0 ∷ 0 ∷ []) (First ∷ os) (Second ∷ os) (s₂ .0) (refl, (refl, (refl, (refl, (refl, (refl, (refl, (refl, tt)))))))) refl)
       ∙ code-passes q (a₁ + 8) (suc n₃) (Second ∷ os) (s₃ .0) (deeper os q (k .3))
       ∙ line-said cells bs a₂ (Second ∷ os) (suc n₃) n₃ refl os
-        (said a₂ 5 (0 ∷ 0 ∷ 0 ∷ 0 ∷ 0 ∷ 0 ∷ 0 ∷ []) (Second ∷ os) os (s₄ .0) (refl, (refl, (refl, (refl, (refl, (refl, (refl, (refl, tt)))))))) refl)
+      (said a₂ 5 (0 ∷ 0 ∷ 0 ∷ 0 ∷ 0 ∷ 0 ∷ 0 ∷ []) (Second ∷ os) os (s₄ .0) (refl, (refl, (refl, (refl, (refl, (refl, (refl, (refl, tt)))))))) refl)
       ∙ code-passes r (a₂ + 8) n os (s₄ .1) (k .4) ∙ ap (λ y. linesFault cells bs y n os) e
   code-passes (repeat x v p r) at n os h k =
       let s₀ = stands-split 0 bs at (otherBytes 6 x v) (codeBytes p ++ (otherBytes 5 0 0 ++ codeBytes r)) h in
@@ -95,10 +95,10 @@ module _ (cells : ℕ) (bs : List ℕ) where
       let n₁ = sizeOf p + suc n₂ in
       let e : a₁ + 8 + 8 * sizeOf r ≡ at + 8 * (2 + sizeOf p + sizeOf r) = omega arith in
       line-said cells bs at os (2 + sizeOf p + sizeOf r + n) n₁ (omega arith) (Body ∷ os)
-        (said at 6 (x ∷ v ∷ 0 ∷ 0 ∷ 0 ∷ 0 ∷ 0 ∷ []) os (Body ∷ os) (s₀ .0) (refl, (lt-ltb x cells (k .0), (le-leb 1 v (k .1), (refl, (refl, (refl, (refl, (refl, tt)))))))) (opens Body os (omega arith)))
+      (said at 6 (x ∷ v ∷ 0 ∷ 0 ∷ 0 ∷ 0 ∷ 0 ∷ []) os (Body ∷ os) (s₀ .0) (refl, (lt-ltb x cells (k .0), (le-leb 1 v (k .1), (refl, (refl, (refl, (refl, (refl, tt)))))))) (opens Body os (omega arith)))
       ∙ code-passes p (at + 8) (suc n₂) (Body ∷ os) (s₁ .0) (deeper os p (k .4))
       ∙ line-said cells bs a₁ (Body ∷ os) (suc n₂) n₂ refl os
-        (said a₁ 5 (0 ∷ 0 ∷ 0 ∷ 0 ∷ 0 ∷ 0 ∷ 0 ∷ []) (Body ∷ os) os (s₂ .0) (refl, (refl, (refl, (refl, (refl, (refl, (refl, (refl, tt)))))))) refl)
+      (said a₁ 5 (0 ∷ 0 ∷ 0 ∷ 0 ∷ 0 ∷ 0 ∷ 0 ∷ []) (Body ∷ os) os (s₂ .0) (refl, (refl, (refl, (refl, (refl, (refl, (refl, (refl, tt)))))))) refl)
       ∙ code-passes r (a₁ + 8) n os (s₂ .1) (k .5) ∙ ap (λ y. linesFault cells bs y n os) e
 
   -- rising marks have no fault
@@ -116,11 +116,10 @@ few-marks cells low (m ∷ ms) r = let l = few-marks cells (m + 1) ms (r .2) in 
 
 -- bytes that hold a program's numbers, marks and lines where they belong
 module _ (bs : List ℕ) (p : Program) (law : Lawful p)
-  (w₀ : wordAt bs 0 ≡ p .cells) (w₂ : wordAt bs 2 ≡ length (p .marks)) (w₄ : wordAt bs 4 ≡ sizeOf (p .code)) (w₆ : wordAt bs 6 ≡ p .verdict)
-  (w₈ : wordAt bs 8 ≡ 14) (w₁₀ : wordAt bs 10 ≡ 14 + length (p .marks)) (w₁₂ : wordAt bs 12 ≡ 14 + length (p .marks) + 8 * sizeOf (p .code))
-  (long : length bs ≡ 14 + length (p .marks) + 8 * sizeOf (p .code))
-  (marks : Here bs 14 (p .marks)) (code : Here bs (14 + length (p .marks)) (codeBytes (p .code))) where
-
+    (w₀ : wordAt bs 0 ≡ p .cells) (w₂ : wordAt bs 2 ≡ length (p .marks)) (w₄ : wordAt bs 4 ≡ sizeOf (p .code)) (w₆ : wordAt bs 6 ≡ p .verdict)
+    (w₈ : wordAt bs 8 ≡ 14) (w₁₀ : wordAt bs 10 ≡ 14 + length (p .marks)) (w₁₂ : wordAt bs 12 ≡ 14 + length (p .marks) + 8 * sizeOf (p .code))
+    (long : length bs ≡ 14 + length (p .marks) + 8 * sizeOf (p .code))
+    (marks : Here bs 14 (p .marks)) (code : Here bs (14 + length (p .marks)) (codeBytes (p .code))) where
   limits : limitFault (headerOf bs) ≡ None
   limits =
       let few = few-marks (p .cells) 0 (p .marks) (law .rising) in
@@ -163,5 +162,5 @@ layout-passes bs p laid =
     let s = stands-split 0 ts 0 (header p) cs (stands-self 0 ts) .1 in
     let t = stands-split 0 ts 14 (p .marks) (codeBytes (p .code)) s in
     subst (λ y. sheetFault y ≡ None) (sym (laid .bytes))
-      (passes ts p (laid .lawful) (word-of (p .cells)) (word-of (length (p .marks))) (word-of (sizeOf (p .code))) (word-of (p .verdict)) refl
-        (word-of (14 + length (p .marks))) (word-of (14 + length (p .marks) + 8 * sizeOf (p .code))) len (t .0) (t .1))
+    (passes ts p (laid .lawful) (word-of (p .cells)) (word-of (length (p .marks))) (word-of (sizeOf (p .code))) (word-of (p .verdict)) refl
+    (word-of (14 + length (p .marks))) (word-of (14 + length (p .marks) + 8 * sizeOf (p .code))) len (t .0) (t .1))

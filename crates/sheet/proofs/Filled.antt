@@ -39,16 +39,26 @@ spans-same xs ys i j (choose x p q r) s h =
     let z = h .1 in
     let l₁ = spans-le xs (i + 1) e p (h .3) in
     let l₂ = spans-le xs (e + 1) z q (h .5) in
-    let l₃ = spans-le xs (z + 1) j r (h .7) in
-    (e, z, s i (omega arith) (omega arith) ∙ h .2, spans-same xs ys (i + 1) e p (λ k f g. s k (omega arith) (omega arith)) (h .3),
-      s e (omega arith) (omega arith) ∙ h .4, spans-same xs ys (e + 1) z q (λ k f g. s k (omega arith) (omega arith)) (h .5),
-      s z (omega arith) (omega arith) ∙ h .6, spans-same xs ys (z + 1) j r (λ k f g. s k (omega arith) (omega arith)) (h .7))
+    let l₃ = spans-le xs (z + 1) j r (h .7) in (
+      e,
+      z,
+      s i (omega arith) (omega arith) ∙ h .2,
+      spans-same xs ys (i + 1) e p (λ k f g. s k (omega arith) (omega arith)) (h .3),
+      s e (omega arith) (omega arith) ∙ h .4,
+      spans-same xs ys (e + 1) z q (λ k f g. s k (omega arith) (omega arith)) (h .5),
+      s z (omega arith) (omega arith) ∙ h .6,
+      spans-same xs ys (z + 1) j r (λ k f g. s k (omega arith) (omega arith)) (h .7),
+    )
 spans-same xs ys i j (repeat x n p r) s h =
     let z = h .0 in
     let l₁ = spans-le xs (i + 1) z p (h .2) in
-    let l₂ = spans-le xs (z + 1) j r (h .4) in
-    (z, s i (omega arith) (omega arith) ∙ h .1, spans-same xs ys (i + 1) z p (λ k f g. s k (omega arith) (omega arith)) (h .2),
-      s z (omega arith) (omega arith) ∙ h .3, spans-same xs ys (z + 1) j r (λ k f g. s k (omega arith) (omega arith)) (h .4))
+    let l₂ = spans-le xs (z + 1) j r (h .4) in (
+      z,
+      s i (omega arith) (omega arith) ∙ h .1,
+      spans-same xs ys (i + 1) z p (λ k f g. s k (omega arith) (omega arith)) (h .2),
+      s z (omega arith) (omega arith) ∙ h .3,
+      spans-same xs ys (z + 1) j r (λ k f g. s k (omega arith) (omega arith)) (h .4),
+    )
 
 module _ (bs : List ℕ) (base count : ℕ) where
   abbrev Filled : ℕ → List Line → List Line → ℕ → Type 0
@@ -57,8 +67,11 @@ module _ (bs : List ℕ) (base count : ℕ) where
   -- nothing is left of the block
   pub filled-none : (i : ℕ) (ts : List Line) → ((c : Code) → Begins bs base count i c → c ≡ stop) → Filled i ts ts i
   filled-none i ts f =
-      record { long = refl; outside = λ k h. refl;
-        spans = λ c b. let e = f c b in (let e₀ : i ≡ i + 0 = omega arith in e₀ ∙ ap (λ y. i + sizeOf y) (sym e), subst (λ y. Spans ts i i y) (sym e) refl) }
+      record {
+        long = refl;
+        outside = λ k h. refl;
+        spans = λ c b. let e = f c b in (let e₀ : i ≡ i + 0 = omega arith in e₀ ∙ ap (λ y. i + sizeOf y) (sym e), subst (λ y. Spans ts i i y) (sym e) refl);
+      }
 
   -- a line or construct, and then the rest
   pub filled-then : (i n r : ℕ) (ts us vs : List Line) → ((c : Code) × Begins bs base count i c) → Stepped bs base count i ts us n → Filled n us vs r → Filled i ts vs r
@@ -66,24 +79,33 @@ module _ (bs : List ℕ) (base count : ℕ) where
       let w₀ = s .onward (b₀ .0) (b₀ .1) in
       let e₀ = d .spans (w₀ .rest) (w₀ .begins) .0 in
       let l₀ = s .further in
-      record { long = d .long ∙ s .long;
+      record {
+        long = d .long ∙ s .long;
         outside = λ k o. d .outside k (⊎-elim (λ g. inl (omega arith)) (λ g. inr g) o) ∙ s .outside k (⊎-elim (λ g. inl g) (λ g. inr (omega arith)) o);
         spans = λ c b.
-          let w = s .onward c b in
-          let g = d .spans (w .rest) (w .begins) in
-          (let e = g .0 in let z = w .size in omega arith, w .spans vs r (λ k f h. d .outside k (inl h)) (g .1)) }
+            let w = s .onward c b in
+            let g = d .spans (w .rest) (w .begins) in
+            (let e = g .0 in let z = w .size in omega arith, w .spans vs r (λ k f h. d .outside k (inl h)) (g .1));
+      }
 
   module _ (i : ℕ) (more : i < count) (ts : List Line) (room : i < length ts) where
     -- a line in its place
     stepped-line : (l : Line) → ((c : Code) → Begins bs base count i c → (rest : Code) × Begins bs base count (i + 1) rest × (sizeOf c ≡ 1 + sizeOf rest) ×
         ((xs : List Line) (j : ℕ) → lineAt xs i ≡ l → Spans xs (i + 1) j rest → Spans xs i j c)) → Stepped bs base count i ts (set ts i l) (i + 1)
     stepped-line l f =
-        record { long = length-set ts i l; further = omega arith;
+        record {
+          long = length-set ts i l;
+          further = omega arith;
           outside = λ k o. other ts i l k (⊎-elim (λ g. omega arith) (λ g. omega arith) o);
           onward = λ c b.
-            let w = f c b in
-            record { rest = w .0; begins = w .1; size = let e = w .2 in omega arith;
-              spans = λ xs j s h. w .3 xs j (s i (omega arith) (omega arith) ∙ wrote ts i l room) h } }
+              let w = f c b in
+              record {
+                rest = w .0;
+                begins = w .1;
+                size = let e = w .2 in omega arith;
+                spans = λ xs j s h. w .3 xs j (s i (omega arith) (omega arith) ∙ wrote ts i l room) h;
+              };
+        }
 
     pub stepped-work : byteAt bs (base + 8 * i) ≡ 1 →
         Stepped bs base count i ts (set ts i (Work (lineByte bs base i 1) (lineByte bs base i 2) (lineByte bs base i 3) (lineByte bs base i 4))) (i + 1)
@@ -110,26 +132,35 @@ module _ (bs : List ℕ) (base count : ℕ) where
         let n₁ : length v₁ ≡ length ts = length-set vs i (If x m) ∙ n₀ in
         let n₂ : length v₂ ≡ length ts = length-set v₁ m (Else z) ∙ n₁ in
         let keep : (y : ℕ) → y ≢ i → y ≢ m → y ≢ z → lineAt v₃ y ≡ lineAt vs y = λ y p q r. other v₂ z (End i) y r ∙ other v₁ m (Else z) y q ∙ other vs i (If x m) y p in
-        record { long = length-set v₂ z (End i) ∙ n₂; further = omega arith;
+        record {
+          long = length-set v₂ z (End i) ∙ n₂;
+          further = omega arith;
           outside = λ y o. keep y (⊎-elim (λ g. omega arith) (λ g. omega arith) o) (⊎-elim (λ g. omega arith) (λ g. omega arith) o) (⊎-elim (λ g. omega arith) (λ g. omega arith) o)
-            ∙ d₂ .outside y (⊎-elim (λ g. inl (omega arith)) (λ g. inr (omega arith)) o) ∙ d₁ .outside y (⊎-elim (λ g. inl (omega arith)) (λ g. inr (omega arith)) o);
+              ∙ d₂ .outside y (⊎-elim (λ g. inl (omega arith)) (λ g. inr (omega arith)) o) ∙ d₁ .outside y (⊎-elim (λ g. inl (omega arith)) (λ g. inr (omega arith)) o);
           onward = λ c b.
-            let v = has-if bs base count i more c b k in
-            let g₁ = d₁ .spans (v .first) (v .begins-first) in
-            let em = g₁ .0 in
-            let g₂ = d₂ .spans (v .second) (subst (λ y. Begins bs base count (y + 1) (v .second)) (sym em) (v .begins-second)) in
-            let ez = g₂ .0 in
-            let er : i + 1 + sizeOf (v .first) + 1 + sizeOf (v .second) + 1 ≡ z + 1 = omega arith in
-            let ec : i + (3 + sizeOf (v .first) + sizeOf (v .second) + sizeOf (v .rest)) ≡ z + 1 + sizeOf (v .rest) = omega arith in
-            record { rest = v .rest; begins = subst (λ y. Begins bs base count y (v .rest)) er (v .begins-rest);
-              size = ap (λ y. i + sizeOf y) (v .is) ∙ ec;
-              spans = λ xs j s h. subst (λ y. Spans xs i j y) (sym (v .is))
-                (m, z,
+              let v = has-if bs base count i more c b k in
+              let g₁ = d₁ .spans (v .first) (v .begins-first) in
+              let em = g₁ .0 in
+              let g₂ = d₂ .spans (v .second) (subst (λ y. Begins bs base count (y + 1) (v .second)) (sym em) (v .begins-second)) in
+              let ez = g₂ .0 in
+              let er : i + 1 + sizeOf (v .first) + 1 + sizeOf (v .second) + 1 ≡ z + 1 = omega arith in
+              let ec : i + (3 + sizeOf (v .first) + sizeOf (v .second) + sizeOf (v .rest)) ≡ z + 1 + sizeOf (v .rest) = omega arith in
+              record {
+                rest = v .rest;
+                begins = subst (λ y. Begins bs base count y (v .rest)) er (v .begins-rest);
+                size = ap (λ y. i + sizeOf y) (v .is) ∙ ec;
+                spans = λ xs j s h. subst (λ y. Spans xs i j y) (sym (v .is)) (
+                  m,
+                  z,
                   s i (omega arith) (omega arith) ∙ other v₂ z (End i) i (omega arith) ∙ other v₁ m (Else z) i (omega arith) ∙ wrote vs i (If x m) (omega arith),
                   spans-same us xs (i + 1) m (v .first) (λ y f g. s y (omega arith) (omega arith) ∙ keep y (omega arith) (omega arith) (omega arith) ∙ d₂ .outside y (inl (omega arith))) (g₁ .1),
                   s m (omega arith) (omega arith) ∙ other v₂ z (End i) m (omega arith) ∙ wrote v₁ m (Else z) (omega arith),
                   spans-same vs xs (m + 1) z (v .second) (λ y f g. s y (omega arith) (omega arith) ∙ keep y (omega arith) (omega arith) (omega arith)) (g₂ .1),
-                  s z (omega arith) (omega arith) ∙ wrote v₂ z (End i) (omega arith), h) } }
+                  s z (omega arith) (omega arith) ∙ wrote v₂ z (End i) (omega arith),
+                  h,
+                );
+              };
+        }
 
     -- a loop: its block, and then its two lines
     pub stepped-loop : m < length ts → byteAt bs (base + 8 * i) ≡ 6 →
@@ -141,22 +172,30 @@ module _ (bs : List ℕ) (base count : ℕ) where
         let n₁ : length v₁ ≡ length ts = length-set us i l ∙ d₁ .long in
         let n₀ = d₁ .long in
         let keep : (y : ℕ) → y ≢ i → y ≢ m → lineAt v₂ y ≡ lineAt us y = λ y p q. other v₁ m (End i) y q ∙ other us i l y p in
-        record { long = length-set v₁ m (End i) ∙ n₁; further = omega arith;
+        record {
+          long = length-set v₁ m (End i) ∙ n₁;
+          further = omega arith;
           outside = λ y o. keep y (⊎-elim (λ g. omega arith) (λ g. omega arith) o) (⊎-elim (λ g. omega arith) (λ g. omega arith) o)
-            ∙ d₁ .outside y (⊎-elim (λ g. inl (omega arith)) (λ g. inr (omega arith)) o);
+              ∙ d₁ .outside y (⊎-elim (λ g. inl (omega arith)) (λ g. inr (omega arith)) o);
           onward = λ c b.
-            let v = has-loop bs base count i more c b k in
-            let g₁ = d₁ .spans (v .first) (v .begins-first) in
-            let em = g₁ .0 in
-            let er : i + 1 + sizeOf (v .first) + 1 ≡ m + 1 = omega arith in
-            let ec : i + (2 + sizeOf (v .first) + sizeOf (v .rest)) ≡ m + 1 + sizeOf (v .rest) = omega arith in
-            record { rest = v .rest; begins = subst (λ y. Begins bs base count y (v .rest)) er (v .begins-rest);
-              size = ap (λ y. i + sizeOf y) (v .is) ∙ ec;
-              spans = λ xs j s h. subst (λ y. Spans xs i j y) (sym (v .is))
-                (m,
+              let v = has-loop bs base count i more c b k in
+              let g₁ = d₁ .spans (v .first) (v .begins-first) in
+              let em = g₁ .0 in
+              let er : i + 1 + sizeOf (v .first) + 1 ≡ m + 1 = omega arith in
+              let ec : i + (2 + sizeOf (v .first) + sizeOf (v .rest)) ≡ m + 1 + sizeOf (v .rest) = omega arith in
+              record {
+                rest = v .rest;
+                begins = subst (λ y. Begins bs base count y (v .rest)) er (v .begins-rest);
+                size = ap (λ y. i + sizeOf y) (v .is) ∙ ec;
+                spans = λ xs j s h. subst (λ y. Spans xs i j y) (sym (v .is)) (
+                  m,
                   s i (omega arith) (omega arith) ∙ other v₁ m (End i) i (omega arith) ∙ wrote us i l (omega arith),
                   spans-same us xs (i + 1) m (v .first) (λ y f g. s y (omega arith) (omega arith) ∙ keep y (omega arith) (omega arith)) (g₁ .1),
-                  s m (omega arith) (omega arith) ∙ wrote v₁ m (End i) (omega arith), h) } }
+                  s m (omega arith) (omega arith) ∙ wrote v₁ m (End i) (omega arith),
+                  h,
+                );
+              };
+        }
 
   -- where the lines of an if and of a loop lie
   module _ (i : ℕ) (more : i < count) (c : Code) (b : Begins bs base count i c) (ts us : List Line) (m : ℕ) (d₁ : Filled (i + 1) ts us m) where

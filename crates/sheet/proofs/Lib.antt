@@ -8,5 +8,6 @@ pub mod Bytes
 pub mod Sound
 pub mod Complete
 pub mod Verdicts
+pub mod Nearby
 pub mod Blocks
 pub mod Filled

@@ -48,9 +48,16 @@ spans-from-list xs i j (choose x p q r) g h =
     let s = stands-split (Work 0 0 0 0) xs (i + 1) ps (Else z ∷ (qs ++ (End i ∷ rs))) (h .1) in
     let s₁ = stands-moved (Work 0 0 0 0) xs (i + 1 + length ps) e (Else z ∷ (qs ++ (End i ∷ rs))) (omega arith) (s .1) in
     let s₂ = stands-split (Work 0 0 0 0) xs (e + 1) qs (End i ∷ rs) (s₁ .1) in
-    let s₃ = stands-moved (Work 0 0 0 0) xs (e + 1 + length qs) z (End i ∷ rs) (omega arith) (s₂ .1) in
-    (e, z, h .0, spans-from-list xs (i + 1) e p refl (s .0), s₁ .0, spans-from-list xs (e + 1) z q refl (s₂ .0), s₃ .0,
-      spans-from-list xs (z + 1) j r (omega arith) (s₃ .1))
+    let s₃ = stands-moved (Work 0 0 0 0) xs (e + 1 + length qs) z (End i ∷ rs) (omega arith) (s₂ .1) in (
+      e,
+      z,
+      h .0,
+      spans-from-list xs (i + 1) e p refl (s .0),
+      s₁ .0,
+      spans-from-list xs (e + 1) z q refl (s₂ .0),
+      s₃ .0,
+      spans-from-list xs (z + 1) j r (omega arith) (s₃ .1),
+    )
 spans-from-list xs i j (repeat x n p r) g h =
     let z = i + 1 + sizeOf p in
     let ps = linesOf (i + 1) p in
@@ -80,7 +87,7 @@ spans-to-list xs i j (choose x p q r) h =
     let end : lineAt xs z ≡ End i = subst (λ y. lineAt xs y ≡ End i) zz (h .6) in
     let last = stands-moved (Work 0 0 0 0) xs z (e + 1 + length qs) (End i ∷ rs) (omega arith) (end, spans-to-list xs (z + 1) j r sr) in
     let half = stands-moved (Work 0 0 0 0) xs e (i + 1 + length ps) (Else z ∷ (qs ++ (End i ∷ rs))) (omega arith)
-        (mid, stands-append (Work 0 0 0 0) xs (e + 1) qs (End i ∷ rs) (spans-to-list xs (e + 1) (h .1) q sq) last) in
+    (mid, stands-append (Work 0 0 0 0) xs (e + 1) qs (End i ∷ rs) (spans-to-list xs (e + 1) (h .1) q sq) last) in
     (h .2 ∙ ap (If x) ee, stands-append (Work 0 0 0 0) xs (i + 1) ps (Else z ∷ (qs ++ (End i ∷ rs))) (spans-to-list xs (i + 1) (h .0) p (h .3)) half)
 spans-to-list xs i j (repeat x n p r) h =
     let z = i + 1 + sizeOf p in
@@ -97,4 +104,4 @@ spans-to-list xs i j (repeat x n p r) h =
 pub front-spans : (xs ys : List Line) (c : Code) → xs ≡ linesOf 0 c ++ ys → Spans xs 0 (sizeOf c) c
 front-spans xs ys c e =
     spans-from-list xs 0 (sizeOf c) c (omega arith)
-      (subst (λ y. Here y 0 (linesOf 0 c)) (sym e) (stands-split (Work 0 0 0 0) (linesOf 0 c ++ ys) 0 (linesOf 0 c) ys (stands-in (Work 0 0 0 0) [] (linesOf 0 c ++ ys)) .0))
+    (subst (λ y. Here y 0 (linesOf 0 c)) (sym e) (stands-split (Work 0 0 0 0) (linesOf 0 c ++ ys) 0 (linesOf 0 c) ys (stands-in (Work 0 0 0 0) [] (linesOf 0 c ++ ys)) .0))

@@ -24,8 +24,8 @@ module _ (xs : List Open) (n : ℕ) (six : length xs ≡ 6) where
   pub begun : (o : Open) → n < 6 → Moves (opened o (stack xs n)) true (stack (set xs n o) (n + 1))
   begun o l =
       subst (λ b. Moves (cond b (Some (o ∷ stack xs n)) None) true (stack (set xs n o) (n + 1)))
-        (sym (ap (λ m. ltb m 6) (stack-length xs n (omega arith)) ∙ lt-ltb n 6 l))
-        (refl, stack-push xs n o (omega arith))
+      (sym (ap (λ m. ltb m 6) (stack-length xs n (omega arith)) ∙ lt-ltb n 6 l))
+      (refl, stack-push xs n o (omega arith))
 
   -- the top of a stack that is not empty
   module _ (o : Open) (more : 1 ≤ n) (few : n ≤ 6) (top : getD xs (n - 1) First ≡ o) where

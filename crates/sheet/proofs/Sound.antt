@@ -56,7 +56,7 @@ module _ (cells : ℕ) (bs : List ℕ) where
   then-line at c us vs h g k =
       let l = code-length c in
       stands-append 0 bs at (codeBytes c) (us ++ vs) h
-        (stands-moved 0 bs (at + 8 * sizeOf c) (at + length (codeBytes c)) (us ++ vs) (omega arith) (stands-append 0 bs (at + 8 * sizeOf c) us vs g k))
+      (stands-moved 0 bs (at + 8 * sizeOf c) (at + length (codeBytes c)) (us ++ vs) (omega arith) (stands-append 0 bs (at + 8 * sizeOf c) us vs g k))
 
   -- What is left of a sheet, up to the byte `end`, where `os` is open: a code, and then what closes `os`.
   abbrev Closing : List Open → ℕ → ℕ → Type 0
@@ -86,13 +86,21 @@ module _ (cells : ℕ) (bs : List ℕ) where
   -- a line in front
   with-work : (os : List Open) (at end t o a b : ℕ) → t < cells → o ≤ 7 → a < cells → b < cells → Here bs at (workBytes t o a b) → Block os (at + 8) end → Block os at end
   with-work os at end t o a b l₁ l₂ l₃ l₄ h k =
-      record { code = work t o a b (k .code); keeps = (l₁, l₂, l₃, l₄, k .keeps); here = then-code at (workBytes t o a b) (k .code) (at + 8) refl h (k .here);
-        closing = moved os (at + 8 + 8 * sizeOf (k .code)) (at + 8 * (1 + sizeOf (k .code))) end (omega arith) (k .closing) }
+      record {
+        code = work t o a b (k .code);
+        keeps = (l₁, l₂, l₃, l₄, k .keeps);
+        here = then-code at (workBytes t o a b) (k .code) (at + 8) refl h (k .here);
+        closing = moved os (at + 8 + 8 * sizeOf (k .code)) (at + 8 * (1 + sizeOf (k .code))) end (omega arith) (k .closing);
+      }
 
   with-literal : (os : List Open) (at end t n : ℕ) → t < cells → n < 2 ^ 32 → Here bs at (literalBytes t n) → Block os (at + 8) end → Block os at end
   with-literal os at end t n l₁ l₂ h k =
-      record { code = literal t n (k .code); keeps = (l₁, l₂, k .keeps); here = then-code at (literalBytes t n) (k .code) (at + 8) refl h (k .here);
-        closing = moved os (at + 8 + 8 * sizeOf (k .code)) (at + 8 * (1 + sizeOf (k .code))) end (omega arith) (k .closing) }
+      record {
+        code = literal t n (k .code);
+        keeps = (l₁, l₂, k .keeps);
+        here = then-code at (literalBytes t n) (k .code) (at + 8) refl h (k .here);
+        closing = moved os (at + 8 + 8 * sizeOf (k .code)) (at + 8 * (1 + sizeOf (k .code))) end (omega arith) (k .closing);
+      }
 
   shallower : (os : List Open) (c : Code) → Keeps cells (6 - suc (length os)) c → Keeps cells (6 - length os - 1) c
   shallower os c h = let e : 6 - suc (length os) ≡ 6 - length os - 1 = omega arith in subst (λ d. Keeps cells d c) e h
@@ -109,11 +117,13 @@ module _ (cells : ℕ) (bs : List ℕ) where
       let rest : Here bs (a₂ + 8) (codeBytes r) = z .1 .3 .1 .2 in
       let second : Here bs (a₁ + 8) (codeBytes q ++ (otherBytes 5 0 0 ++ codeBytes r)) = then-line (a₁ + 8) q (otherBytes 5 0 0) (codeBytes r) (z .1 .2) (z .1 .3 .0) rest in
       let first : Here bs (at + 8) (codeBytes p ++ (otherBytes 4 0 0 ++ (codeBytes q ++ (otherBytes 5 0 0 ++ codeBytes r)))) =
-          then-line (at + 8) p (otherBytes 4 0 0) (codeBytes q ++ (otherBytes 5 0 0 ++ codeBytes r)) (k .here) (z .0) second in
-      record { code = choose x p q r;
+      then-line (at + 8) p (otherBytes 4 0 0) (codeBytes q ++ (otherBytes 5 0 0 ++ codeBytes r)) (k .here) (z .0) second in
+      record {
+        code = choose x p q r;
         keeps = (l, omega arith, shallower os p (k .keeps), shallower os q (z .1 .1), z .1 .3 .1 .1);
         here = stands-append 0 bs at (otherBytes 3 x 0) (codeBytes p ++ (otherBytes 4 0 0 ++ (codeBytes q ++ (otherBytes 5 0 0 ++ codeBytes r)))) h first;
-        closing = moved os (a₂ + 8 + 8 * sizeOf r) (at + 8 * (3 + sizeOf p + sizeOf q + sizeOf r)) end (omega arith) (z .1 .3 .1 .3) }
+        closing = moved os (a₂ + 8 + 8 * sizeOf r) (at + 8 * (3 + sizeOf p + sizeOf q + sizeOf r)) end (omega arith) (z .1 .3 .1 .3);
+      }
 
   with-loop : (os : List Open) (at end x n : ℕ) → x < cells → 1 ≤ n → n ≤ 255 → length os < 6 → Here bs at (otherBytes 6 x n) → Block (Body ∷ os) (at + 8) end → Block os at end
   with-loop os at end x n l l₁ l₂ d h k =
@@ -122,11 +132,13 @@ module _ (cells : ℕ) (bs : List ℕ) where
       let r = z .1 .0 in
       let a₁ = at + 8 + 8 * sizeOf p in
       let first : Here bs (at + 8) (codeBytes p ++ (otherBytes 5 0 0 ++ codeBytes r)) =
-          then-line (at + 8) p (otherBytes 5 0 0) (codeBytes r) (k .here) (z .0) (z .1 .2) in
-      record { code = repeat x n p r;
+      then-line (at + 8) p (otherBytes 5 0 0) (codeBytes r) (k .here) (z .0) (z .1 .2) in
+      record {
+        code = repeat x n p r;
         keeps = (l, l₁, l₂, omega arith, shallower os p (k .keeps), z .1 .1);
         here = stands-append 0 bs at (otherBytes 6 x n) (codeBytes p ++ (otherBytes 5 0 0 ++ codeBytes r)) h first;
-        closing = moved os (a₁ + 8 + 8 * sizeOf r) (at + 8 * (2 + sizeOf p + sizeOf r)) end (omega arith) (z .1 .3) }
+        closing = moved os (a₁ + 8 + 8 * sizeOf r) (at + 8 * (2 + sizeOf p + sizeOf r)) end (omega arith) (z .1 .3);
+      }
 
   -- an else and an end close what is open
   with-else : (os os′ : List Open) (at end : ℕ) → turned os ≡ Some os′ → Here bs at (otherBytes 4 0 0) → Block os′ (at + 8) end → Block os at end
@@ -165,6 +177,7 @@ module _ (cells : ℕ) (bs : List ℕ) where
       inner : (b : Option (List Open)) → placed at b ≡ Ok os′ → b ≡ Some os′
       inner None h = never (cc)
       inner (Some os″) h = cc
+
       go : (a : Option ReadFault) (b : Option (List Open)) → a ≡ a → faulted a (placed at b) ≡ Ok os′ → (a ≡ None) × (b ≡ Some os′)
       go None b g h = (refl, inner b h)
       go (Some f) b g h = never (cc)
@@ -251,8 +264,8 @@ module _ (bs : List ℕ) (bytes : Bytes bs) (none : sheetFault bs ≡ None) wher
       let ms = marks-rise (h .cells) bs (h .marked) 14 0 (s₃ .0) in
       let k = blocks (h .cells) bs bytes (h .lines) (14 + h .marked) [] (s₃ .1) in
       built (ms .0) (ms .1) (ms .2) (ms .3) (k .code) (k .keeps) (k .here) (k .closing)
-        (leb-true _ _ (a₁ .0)) (leb-true _ _ (a₂ .0)) (leb-true _ _ (a₄ .0)) (ltb-true _ _ (a₅ .0))
-        (eqb-true _ _ (b₁ .0)) (eqb-true _ _ (b₂ .0)) (eqb-true _ _ (b₃ .0)) (eqb-true _ _ (b₄ .0))
+      (leb-true _ _ (a₁ .0)) (leb-true _ _ (a₂ .0)) (leb-true _ _ (a₄ .0)) (ltb-true _ _ (a₅ .0))
+      (eqb-true _ _ (b₁ .0)) (eqb-true _ _ (b₂ .0)) (eqb-true _ _ (b₃ .0)) (eqb-true _ _ (b₄ .0))
     where
       built : (ms : List ℕ) → length ms ≡ wordAt bs 2 → Rising (wordAt bs 0) 0 ms → Here bs 14 ms →
           (c : Code) → Keeps (wordAt bs 0) 6 c → Here bs (14 + wordAt bs 2) (codeBytes c) → 14 + wordAt bs 2 + 8 * sizeOf c ≡ 14 + wordAt bs 2 + 8 * wordAt bs 4 →
@@ -266,7 +279,7 @@ module _ (bs : List ℕ) (bytes : Bytes bs) (none : sheetFault bs ≡ None) wher
           let law : Lawful p = record { some = some; few = few; rising = rise; short = omega arith; judged = judged; keeps = keeps } in
           let hc′ = stands-moved 0 bs (14 + wordAt bs 2) (14 + length ms) (codeBytes c) (omega arith) hc in
           let w : (i n : ℕ) → wordAt bs i ≡ n → (byteAt bs i ≡ n % 256) × (byteAt bs (i + 1) ≡ n / 256) =
-              λ i n e. word-bytes (byteAt bs i) (byteAt bs (i + 1)) n (bytes i) e in
+          λ i n e. word-bytes (byteAt bs i) (byteAt bs (i + 1)) n (bytes i) e in
           let w₀ = w 0 (wordAt bs 0) refl in
           let w₂ = w 2 (length ms) (sym lm) in
           let w₄ = w 4 (sizeOf c) size in
@@ -274,10 +287,50 @@ module _ (bs : List ℕ) (bytes : Bytes bs) (none : sheetFault bs ≡ None) wher
           let w₈ = w 8 14 o₈ in
           let w₁₀ = w 10 (14 + length ms) (omega arith) in
           let w₁₂ = w 12 (14 + length ms + 8 * sizeOf c) (omega arith) in
-          let st : Here bs 0 (sheetBytes p) =
-              (w₀ .0, (w₀ .1, (w₂ .0, (w₂ .1, (w₄ .0, (w₄ .1, (w₆ .0, (w₆ .1, (w₈ .0, (w₈ .1, (w₁₀ .0, (w₁₀ .1, (w₁₂ .0, (w₁₂ .1,
-              stands-append 0 bs 14 ms (codeBytes c) hm hc′)))))))))))))) in
+          let st : Here bs 0 (sheetBytes p) = (
+            w₀ .0,
+            (
+              w₀ .1,
+              (
+                w₂ .0,
+                (
+                  w₂ .1,
+                  (
+                    w₄ .0,
+                    (
+                      w₄ .1,
+                      (
+                        w₆ .0,
+                        (
+                          w₆ .1,
+                          (
+                            w₈ .0,
+                            (
+                              w₈ .1,
+                              (
+                                w₁₀ .0,
+                                (
+                                  w₁₀ .1,
+                                  (
+                                    w₁₂ .0,
+                                    (
+                                      w₁₂ .1,
+                                      stands-append 0 bs 14 ms (codeBytes c) hm hc′,
+                                    ),
+                                  ),
+                                ),
+                              ),
+                            ),
+                          ),
+                        ),
+                      ),
+                    ),
+                  ),
+                ),
+              ),
+            ),
+          ) in
           let len : length (sheetBytes p) ≡ length bs = simp length-append (omega arith) in
           let same : bs ≡ sheetBytes p =
-              stands-front 0 bs (sheetBytes p) st (omega arith) ∙ ap (λ y. sheetBytes p ++ y) (drop-all (length (sheetBytes p)) bs (omega arith)) ∙ append-nil (sheetBytes p) in
+          stands-front 0 bs (sheetBytes p) st (omega arith) ∙ ap (λ y. sheetBytes p ++ y) (drop-all (length (sheetBytes p)) bs (omega arith)) ∙ append-nil (sheetBytes p) in
           record { program = p; laid = record { lawful = law; bytes = same }; cells = refl; lines = size; verdict = refl; marked = sym lm; marks = hm; code = hc′; long = omega arith }

@@ -24,10 +24,11 @@ module _ {A : Type 0} (d : A) where
 
   pub stands-in : (ps us : List A) → Stands d (ps ++ us) (length ps) us
   stands-in ps [] = tt
-  stands-in ps (u ∷ us) =
-      (getD-at ps u us d (length ps) refl,
-        subst (λ y. Stands d (ps ++ (u ∷ us)) y us) (length-push ps u)
-          (subst (λ y. Stands d y (length (ps ++ (u ∷ []))) us) (append-assoc ps (u ∷ []) us) (stands-in (ps ++ (u ∷ [])) us)))
+  stands-in ps (u ∷ us) = (
+    getD-at ps u us d (length ps) refl,
+    subst (λ y. Stands d (ps ++ (u ∷ us)) y us) (length-push ps u)
+        (subst (λ y. Stands d y (length (ps ++ (u ∷ []))) us) (append-assoc ps (u ∷ []) us) (stands-in (ps ++ (u ∷ [])) us)),
+  )
 
   pub stands-self : (us : List A) → Stands d us 0 us
   stands-self us = stands-in [] us

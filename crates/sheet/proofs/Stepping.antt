@@ -1,7 +1,6 @@
 -- One step of each of the checks that go over a part of the sheet.
 use mathlib.Core.Path.{_≡_, refl, sym, _∙_, ap, subst}
-use mathlib.Core.Logic.{_⊎_, inl, inr, ⊎-elim}
-use mathlib.Core.Bool.{Bool, true, false, cond}
+use mathlib.Core.Bool.{Bool, true, false, cond, _&&_}
 use mathlib.Core.List.{List, [], _∷_}
 use Prim.Native.Nat.{ℕ, zero, suc, _+_, _-_, _*_, _<_, _≤_}
 use native.Mathlib.Omega.{arith}
@@ -11,7 +10,7 @@ use Rattle.std.specs.declared.option.Option.{Option}
 use Rattle.std.specs.declared.option.Option.the-variants.{Some, None}
 use Rattle.std.specs.declared.result.Result.{Result}
 use Rattle.std.specs.declared.result.Result.the-variants.{Ok, Err}
-use Rattle.std.proofs.shelf.Tests.{le-leb, lt-leb, lt-ltb, le-ltb}
+use Rattle.std.proofs.shelf.Tests.{and-parts}
 use Rattle.std.proofs.shelf.Lists.{drop-more}
 use Rattle.sheet.specs.Checks.{byteAt, unless, marksFault, rulesOf, obeys, bytesFault, lineSays, linesFault}
 use Rattle.sheet.specs.declared.faults.ReadFault.{ReadFault}
@@ -42,18 +41,18 @@ module _ (cells : ℕ) (bs : List ℕ) (at : ℕ) where
     one-more : end - at ≡ suc (end - (at + 1))
     one-more = omega arith
 
-    pub mark-next : low ≤ byteAt bs at → byteAt bs at < cells →
+    pub mark-next : (leb low (byteAt bs at) && ltb (byteAt bs at) cells) ≡ true →
         marksFault cells bs low at (end - at) ≡ marksFault cells bs (byteAt bs at + 1) (at + 1) (end - (at + 1))
-    mark-next l g =
-        ap (marksFault cells bs low at) one-more ∙ passed _ _ _ (le-leb low (byteAt bs at) l) ∙ passed _ _ _ (lt-ltb (byteAt bs at) cells g)
+    mark-next h =
+        let b = and-parts (leb low (byteAt bs at)) (ltb (byteAt bs at) cells) h in
+        ap (marksFault cells bs low at) one-more ∙ passed _ _ _ (b .0) ∙ passed _ _ _ (b .1)
 
-    pub mark-bad : (byteAt bs at < low) ⊎ (cells ≤ byteAt bs at) → marksFault cells bs low at (end - at) ≡ Some (Mark at)
-    mark-bad (inl l) = ap (marksFault cells bs low at) one-more ∙ failed _ _ _ (lt-leb low (byteAt bs at) l)
-    mark-bad (inr l) = ap (marksFault cells bs low at) one-more ∙ both (leb low (byteAt bs at)) _ (failed _ _ _ (le-ltb (byteAt bs at) cells l))
+    pub mark-bad : (leb low (byteAt bs at) && ltb (byteAt bs at) cells) ≡ false → marksFault cells bs low at (end - at) ≡ Some (Mark at)
+    mark-bad h = ap (marksFault cells bs low at) one-more ∙ either (leb low (byteAt bs at)) (ltb (byteAt bs at) cells) _ h
       where
-        both : (t : Bool) (rest : Option ReadFault) → rest ≡ Some (Mark at) → unless t (Mark at) rest ≡ Some (Mark at)
-        both true rest h = h
-        both false rest h = refl
+        either : (s t : Bool) (rest : Option ReadFault) → (s && t) ≡ false → unless s (Mark at) (unless t (Mark at) rest) ≡ Some (Mark at)
+        either true t rest g = failed t (Mark at) rest g
+        either false t rest g = refl
 
   -- bytes: the rules from the j-th on are left
   module _ (rules : List Rule) (j : ℕ) (more : j < length rules) where

@@ -40,13 +40,16 @@ module _ (bs : List ℕ) (h : Header) (is : h ≡ headerOf bs) (bytes : Bytes bs
   pub taken : (s : Sheet) → s .cells ≡ h .cells → s .lines ≡ h .lines → s .verdict ≡ h .verdict → now (s .marks) ≡ take (h .marked) (drop 14 bs) → (p : Program) × Laid bs p × Tells p s
   taken s c l v m =
       let w = whole in
-      let n : h .marked ≡ length (w .program .marks) = ap (λ y. y .marked) is ∙ w .marked in
-      (w .program, w .laid,
+      let n : h .marked ≡ length (w .program .marks) = ap (λ y. y .marked) is ∙ w .marked in (
+        w .program,
+        w .laid,
         record {
           cells = c ∙ ap (λ y. y .cells) is ∙ w .cells;
           lines = l ∙ ap (λ y. y .lines) is ∙ w .lines;
           verdict = v ∙ ap (λ y. y .verdict) is ∙ w .verdict;
-          marks = m ∙ ap (λ y. take y (drop 14 bs)) n ∙ stands-take 0 bs 14 (w .program .marks) (w .marks) (let long = w .long in omega arith) })
+          marks = m ∙ ap (λ y. take y (drop 14 bs)) n ∙ stands-take 0 bs 14 (w .program .marks) (w .marks) (let long = w .long in omega arith);
+        },
+      )
 
 -- where the parts of a program lie among its bytes
 module _ (bs : List ℕ) (p : Program) (laid : Laid bs p) where
@@ -76,9 +79,9 @@ table-filled bs base n r p before after e room b d =
     let long = d .long in
     let front = stands-front (Work 0 0 0 0) after ls (spans-to-list after 0 r (p .code) (g .1)) (omega arith) in
     let rest : drop (length ls) after ≡ drop k before =
-        ap (λ y. drop y after) len ∙
-        ext-getD (Work 0 0 0 0) (drop k after) (drop k before) (simp length-drop (omega arith))
-          (λ i l. getD-drop k after i (Work 0 0 0 0) ∙ d .outside (k + i) (inr (omega arith)) ∙ sym (getD-drop k before i (Work 0 0 0 0))) in
+    ap (λ y. drop y after) len ∙
+    ext-getD (Work 0 0 0 0) (drop k after) (drop k before) (simp length-drop (omega arith))
+    (λ i l. getD-drop k after i (Work 0 0 0 0) ∙ d .outside (k + i) (inr (omega arith)) ∙ sym (getD-drop k before i (Work 0 0 0 0))) in
     record { room = omega arith; lines = front ∙ ap (λ y. ls ++ y) rest }
 
 -- a line table that has room for the sheet is no fault

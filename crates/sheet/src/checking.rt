@@ -1,7 +1,9 @@
 // The checks of a sheet's bytes, in the order of the refusals.
 ghost use mathlib.Core.Path.{_≡_};
+ghost use mathlib.Core.Bool.{_&&_};
 ghost use mathlib.Core.List.{[]};
 ghost use Prim.Native.Nat.{ℕ, _+_, _*_, _<_, _≤_};
+ghost use lib.Dec.{leb, ltb};
 ghost use lib.ListN.{length, getD};
 ghost use Rattle.std.specs.declared.result.Result.the-variants.{Ok, Err};
 ghost use Rattle.sheet.specs.Checks.{wordAt, headerOf, limitFault, offsetFault, marksFault, rulesOf, obeys, bytesFault, lineSays, linesFault};
@@ -26,7 +28,12 @@ pub(crate) fn header(bytes: &[u8]) -> Header
     ensures value { λ r. ⌜ r ≡ headerOf (now (bytes .entry)) ⌝ }
     ensures bytes { λ _. ⌜ Bytes (now (bytes .entry)) ⌝ }
 {
-    Header { cells: word(bytes, 0), marked: word(bytes, 2), lines: word(bytes, 4), verdict: word(bytes, 6) }
+    Header {
+        cells: word(bytes, 0),
+        marked: word(bytes, 2),
+        lines: word(bytes, 4),
+        verdict: word(bytes, 6),
+    }
 }
 
 pub(crate) fn check_limits(h: Header) -> Result<(), ReadFault>
@@ -71,11 +78,56 @@ fn rules(kind: u8) -> [Rule; 8]
     ensures { λ r. ⌜ r ≡ rulesOf kind ⌝ }
 {
     match kind {
-        1 => [Rule::Kind, Rule::Cell, Rule::Operation, Rule::Cell, Rule::Cell, Rule::Zero, Rule::Zero, Rule::Zero],
-        2 => [Rule::Kind, Rule::Cell, Rule::Zero, Rule::Zero, Rule::Any, Rule::Any, Rule::Any, Rule::Any],
-        3 => [Rule::Kind, Rule::Cell, Rule::Zero, Rule::Zero, Rule::Zero, Rule::Zero, Rule::Zero, Rule::Zero],
-        6 => [Rule::Kind, Rule::Cell, Rule::Bound, Rule::Zero, Rule::Zero, Rule::Zero, Rule::Zero, Rule::Zero],
-        _ => [Rule::Kind, Rule::Zero, Rule::Zero, Rule::Zero, Rule::Zero, Rule::Zero, Rule::Zero, Rule::Zero],
+        1 => [
+            Rule::Kind,
+            Rule::Cell,
+            Rule::Operation,
+            Rule::Cell,
+            Rule::Cell,
+            Rule::Zero,
+            Rule::Zero,
+            Rule::Zero,
+        ],
+        2 => [
+            Rule::Kind,
+            Rule::Cell,
+            Rule::Zero,
+            Rule::Zero,
+            Rule::Any,
+            Rule::Any,
+            Rule::Any,
+            Rule::Any,
+        ],
+        3 => [
+            Rule::Kind,
+            Rule::Cell,
+            Rule::Zero,
+            Rule::Zero,
+            Rule::Zero,
+            Rule::Zero,
+            Rule::Zero,
+            Rule::Zero,
+        ],
+        6 => [
+            Rule::Kind,
+            Rule::Cell,
+            Rule::Bound,
+            Rule::Zero,
+            Rule::Zero,
+            Rule::Zero,
+            Rule::Zero,
+            Rule::Zero,
+        ],
+        _ => [
+            Rule::Kind,
+            Rule::Zero,
+            Rule::Zero,
+            Rule::Zero,
+            Rule::Zero,
+            Rule::Zero,
+            Rule::Zero,
+            Rule::Zero,
+        ],
     }
 }
 
@@ -92,6 +144,14 @@ fn allowed(cells: usize, rule: Rule, b: u8) -> bool
     }
 }
 
+// A mark is a cell of the sheet, and lies above the mark before it: at `low` or higher.
+fn may_follow(mark: u8, low: usize, cells: usize) -> bool
+    ensures { λ r. ⌜ r ≡ (leb low mark && ltb mark cells) ⌝ }
+{
+    let m = usize::from(mark);
+    low <= m && m < cells
+}
+
 // The marks rise, and each is a cell of the sheet.
 pub(crate) fn check_marks(bytes: &[u8], h: Header) -> Result<(), ReadFault>
     requires { ⌜ 14 + h .marked ≤ length (now bytes) ⌝ }
@@ -99,11 +159,11 @@ pub(crate) fn check_marks(bytes: &[u8], h: Header) -> Result<(), ReadFault>
 {
     let mut low = 0;
     for at in 14..14 + h.marked {
-        let mark = usize::from(bytes[at]);
-        if mark < low || mark >= h.cells {
+        let mark = bytes[at];
+        if !may_follow(mark, low, h.cells) {
             return Err(ReadFault::Mark { at });
         }
-        low = mark + 1;
+        low = usize::from(mark) + 1;
     }
     Ok(())
 }
@@ -130,7 +190,11 @@ fn check_line(bytes: &[u8], at: usize, cells: usize, nest: &mut Nest) -> Result<
     ensures says { λ r. ⌜ lineSays cells (now (bytes .entry)) at (opens (now (nest .entry))) ≡ elim r [ Ok _ ↦ Ok (opens (now (nest .exit))) | Err f ↦ Err f ] ⌝ }
 {
     check_bytes(bytes, at, cells)?;
-    if nest.pass(bytes[at]) { Ok(()) } else { Err(ReadFault::Nesting { at }) }
+    if nest.pass(bytes[at]) {
+        Ok(())
+    } else {
+        Err(ReadFault::Nesting { at })
+    }
 }
 
 // Line after line, and nothing is open at the end.
@@ -144,5 +208,9 @@ pub(crate) fn check_lines(bytes: &[u8], h: Header) -> Result<(), ReadFault>
         check_line(bytes, at, h.cells, &mut nest)?;
         at += 8;
     }
-    if nest.depth > 0 { Err(ReadFault::Nesting { at }) } else { Ok(()) }
+    if nest.is_empty() {
+        Ok(())
+    } else {
+        Err(ReadFault::Nesting { at })
+    }
 }

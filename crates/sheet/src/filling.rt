@@ -11,12 +11,21 @@ fn number(bytes: &[u8], at: usize) -> u32
     requires { ⌜ at + 3 < length (now bytes) ⌝ }
     ensures { λ r. ⌜ r ≡ getD (now (bytes .entry)) at 0 + 256 * getD (now (bytes .entry)) (at + 1) 0 + 65536 * getD (now (bytes .entry)) (at + 2) 0 + 16777216 * getD (now (bytes .entry)) (at + 3) 0 ⌝ }
 {
-    u32::from(bytes[at]) + 256 * u32::from(bytes[at + 1]) + 65536 * u32::from(bytes[at + 2]) + 16777216 * u32::from(bytes[at + 3])
+    u32::from(bytes[at])
+        + 256 * u32::from(bytes[at + 1])
+        + 65536 * u32::from(bytes[at + 2])
+        + 16777216 * u32::from(bytes[at + 3])
 }
 
 // Fills in the block that begins at line `from`, of `count` lines whose bytes begin at `base`; answers the line
 // after it.
-pub(crate) fn fill_block(bytes: &[u8], base: usize, count: usize, from: usize, table: &mut [Line]) -> usize
+pub(crate) fn fill_block(
+    bytes: &[u8],
+    base: usize,
+    count: usize,
+    from: usize,
+    table: &mut [Line],
+) -> usize
     requires code { ⌜ ((c : Code) × Begins (now bytes) base count from c) ⌝ }
     requires ordered { ⌜ from ≤ count ⌝ }
     requires room { ⌜ count ≤ length (now table) ⌝ }
@@ -28,11 +37,19 @@ pub(crate) fn fill_block(bytes: &[u8], base: usize, count: usize, from: usize, t
         let at = base + 8 * i;
         match bytes[at] {
             1 => {
-                table[i] = Line::Work { target: bytes[at + 1], op: bytes[at + 2], a: bytes[at + 3], b: bytes[at + 4] };
+                table[i] = Line::Work {
+                    target: bytes[at + 1],
+                    op: bytes[at + 2],
+                    a: bytes[at + 3],
+                    b: bytes[at + 4],
+                };
                 i += 1;
             }
             2 => {
-                table[i] = Line::Literal { target: bytes[at + 1], number: number(bytes, at + 4) };
+                table[i] = Line::Literal {
+                    target: bytes[at + 1],
+                    number: number(bytes, at + 4),
+                };
                 i += 1;
             }
             3 => i = fill_if(bytes, base, count, i, table),
@@ -54,7 +71,10 @@ fn fill_if(bytes: &[u8], base: usize, count: usize, from: usize, table: &mut [Li
 {
     let middle = fill_block(bytes, base, count, from + 1, table);
     let end = fill_block(bytes, base, count, middle + 1, table);
-    table[from] = Line::If { cell: bytes[base + 8 * from + 1], partner: middle };
+    table[from] = Line::If {
+        cell: bytes[base + 8 * from + 1],
+        partner: middle,
+    };
     table[middle] = Line::Else { partner: end };
     table[end] = Line::End { partner: from };
     end + 1
@@ -71,7 +91,11 @@ fn fill_loop(bytes: &[u8], base: usize, count: usize, from: usize, table: &mut [
 {
     let end = fill_block(bytes, base, count, from + 1, table);
     let at = base + 8 * from;
-    table[from] = Line::Loop { cell: bytes[at + 1], bound: bytes[at + 2], partner: end };
+    table[from] = Line::Loop {
+        cell: bytes[at + 1],
+        bound: bytes[at + 2],
+        partner: end,
+    };
     table[end] = Line::End { partner: from };
     end + 1
 }

@@ -8,6 +8,7 @@ mod moves;
 mod nesting;
 mod reading;
 mod rules;
+
 pub use faults::ReadFault;
 pub use headers::Sheet;
 pub use lines::Line;

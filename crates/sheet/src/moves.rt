@@ -1,6 +1,7 @@
 // How lines open and close constructs.
 ghost use mathlib.Core.Path.{_≡_};
 ghost use mathlib.Core.List.{[]};
+ghost use lib.Dec.{eqb};
 ghost use Rattle.sheet.specs.Checks.{opened, turned, closed, nested};
 ghost use Rattle.sheet.specs.Nests.{opens, Held, Moves};
 use crate::nesting::Nest;
@@ -11,7 +12,17 @@ impl Nest {
     pub(crate) fn new() -> Nest
         ensures { λ r. ⌜ opens r ≡ [] ⌝ ∗ ⌜ Held r ⌝ }
     {
-        Nest { open: [Open::First; 6], depth: 0 }
+        Nest {
+            open: [Open::First; 6],
+            depth: 0,
+        }
+    }
+
+    // Whether nothing is open.
+    pub(crate) fn is_empty(&self) -> bool
+        ensures { λ r. ⌜ r ≡ eqb (now (self .entry) .depth) 0 ⌝ }
+    {
+        self.depth < 1
     }
 
     // Opens a construct, unless six are open.

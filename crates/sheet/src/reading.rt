@@ -5,6 +5,7 @@ ghost use lib.ListN.{length, getD};
 ghost use Rattle.std.specs.Results.{Cases};
 ghost use Rattle.sheet.specs.Checks.{headerOf, sheetFault, readFault};
 ghost use Rattle.sheet.specs.Reading.{Taken, Reads};
+ghost use Rattle.sheet.specs.Refusals.{placeOf};
 ghost use Rattle.sheet.specs.Results.{found, Bytes};
 use crate::checking::check_limits;
 use crate::checking::check_lines;
@@ -37,9 +38,15 @@ fn checked(bytes: &[u8]) -> Result<Header, ReadFault>
 pub fn check(bytes: &[u8]) -> Result<Sheet<'_>, ReadFault>
     ensures first { λ r. ⌜ found r ≡ sheetFault (now (bytes .entry)) ⌝ }
     ensures taken { λ r. ⌜ Taken (now (bytes .entry)) r ⌝ }
+    ensures near { λ r. ⌜ Cases r (λ _. Unit {0}) (λ f. placeOf f ≤ 4174) ⌝ }
 {
     let h = checked(bytes)?;
-    Ok(Sheet { cells: h.cells, lines: h.lines, verdict: h.verdict, marks: &bytes[14..14 + h.marked] })
+    Ok(Sheet {
+        cells: h.cells,
+        lines: h.lines,
+        verdict: h.verdict,
+        marks: &bytes[14..14 + h.marked],
+    })
 }
 
 // Reads a sheet into the line table, which begins with its lines then, or answers the first fault.

@@ -15,16 +15,16 @@ pub returns-then-not-allowed : need.returns-then-not-allowed
 returns-then-not-allowed c =
     let eight : length (c .rules-row .result) ≡ 8 = ap length (c .rules-row .ensures) ∙ rules-length (getD (c .args .bytes .now) (c .args .at) 0) in
     sym (byte-bad (c .args .cells) (c .args .bytes .now) (c .args .at) (c .rules-row .result) (c .loop-j .j) (omega arith) (sym (c .if-not-allowed .ensures tt)))
-      ∙ c .loop-j .inv ∙ ap (bytesFault (c .args .cells) (c .args .bytes .now) (c .args .at)) (c .rules-row .ensures)
+    ∙ c .loop-j .inv ∙ ap (bytesFault (c .args .cells) (c .args .bytes .now) (c .args .at)) (c .rules-row .ensures)
 
 pub loop-j-again : need.loop-j-again
 loop-j-again c =
     let eight : length (c .rules-row .result) ≡ 8 = ap length (c .rules-row .ensures) ∙ rules-length (getD (c .args .bytes .now) (c .args .at) 0) in
     sym (byte-next (c .args .cells) (c .args .bytes .now) (c .args .at) (c .rules-row .result) (c .loop-j .j) (omega arith) (sym (c .if-not-allowed .ensures tt)))
-      ∙ c .loop-j .inv
+    ∙ c .loop-j .inv
 
 pub returns : need.returns
 returns c =
     let eight : length (c .rules-row .result) ≡ 8 = ap length (c .rules-row .ensures) ∙ rules-length (getD (c .args .bytes .now) (c .args .at) 0) in
     sym (at-drop-all (bytesFault (c .args .cells) (c .args .bytes .now) (c .args .at + c .loop-j .j)) (c .rules-row .result) (c .loop-j .j) (omega arith))
-      ∙ c .loop-j .inv ∙ ap (bytesFault (c .args .cells) (c .args .bytes .now) (c .args .at)) (c .rules-row .ensures)
+    ∙ c .loop-j .inv ∙ ap (bytesFault (c .args .cells) (c .args .bytes .now) (c .args .at)) (c .rules-row .ensures)

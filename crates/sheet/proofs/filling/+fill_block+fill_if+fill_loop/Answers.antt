@@ -46,12 +46,12 @@ pub fill-block-returns-in-rest : need.fill-block-returns-in-rest
 fill-block-returns-in-rest t c =
     let bs = c .args .bytes .now in let base = c .args .base in let n = c .args .count in let i = c .loop-i .i in
     c .loop-i .inv .4 (c .loop-i .table) i
-      (filled-none bs base n i (c .loop-i .table) (λ d b. has-none bs base n i (c .loop-i-test .taken) d b (λ e. omega arith) (λ e. omega arith) (λ e. omega arith) (λ e. omega arith)))
+    (filled-none bs base n i (c .loop-i .table) (λ d b. has-none bs base n i (c .loop-i-test .taken) d b (λ e. omega arith) (λ e. omega arith) (λ e. omega arith) (λ e. omega arith)))
 
 pub fill-block-returns : need.fill-block-returns
 fill-block-returns t c =
     c .loop-i .inv .4 (c .loop-i .table) (c .loop-i .i)
-      (filled-none (c .args .bytes .now) (c .args .base) (c .args .count) (c .loop-i .i) (c .loop-i .table) (at-end (c .args .bytes .now) (c .args .base) (c .args .count) (c .loop-i .i) (omega arith)))
+    (filled-none (c .args .bytes .now) (c .args .base) (c .args .count) (c .loop-i .i) (c .loop-i .table) (at-end (c .args .bytes .now) (c .args .base) (c .args .count) (c .loop-i .i) (omega arith)))
 
 -- an if
 
@@ -106,7 +106,7 @@ fill-if-returns t c =
     let m = if-middle (c .args .bytes .now) (c .args .base) (c .args .count) (c .args .from) (c .pre .ordered) (c .pre .code .0) (c .pre .code .1) (c .args .table .now) (c .fill-block-middle .last .table) (c .fill-block-middle .result) (c .fill-block-middle .ensures) (c .pre .kind) in
     let z = if-end (c .args .bytes .now) (c .args .base) (c .args .count) (c .args .from) (c .pre .ordered) (c .pre .code .0) (c .pre .code .1) (c .args .table .now) (c .fill-block-middle .last .table) (c .fill-block-middle .result) (c .fill-block-middle .ensures) (c .fill-block-end .last .table) (c .fill-block-end .result) (c .fill-block-end .ensures) (c .pre .kind) in
     stepped-if (c .args .bytes .now) (c .args .base) (c .args .count) (c .args .from) (c .pre .ordered) (c .args .table .now) (c .fill-block-middle .last .table) (c .fill-block-middle .result) (m .after) (c .fill-block-middle .ensures)
-      (c .fill-block-end .last .table) (c .fill-block-end .result) (z .0) (omega (arith, z .1)) (c .fill-block-end .ensures) (c .pre .kind)
+    (c .fill-block-end .last .table) (c .fill-block-end .result) (z .0) (omega (arith, z .1)) (c .fill-block-end .ensures) (c .pre .kind)
 
 -- a loop
 
@@ -136,4 +136,4 @@ pub fill-loop-returns : need.fill-loop-returns
 fill-loop-returns t c =
     let m = loop-end (c .args .bytes .now) (c .args .base) (c .args .count) (c .args .from) (c .pre .ordered) (c .pre .code .0) (c .pre .code .1) (c .args .table .now) (c .fill-block-end .last .table) (c .fill-block-end .result) (c .fill-block-end .ensures) (c .pre .kind) in
     stepped-loop (c .args .bytes .now) (c .args .base) (c .args .count) (c .args .from) (c .pre .ordered) (c .args .table .now) (c .fill-block-end .last .table) (c .fill-block-end .result) (m .after) (c .fill-block-end .ensures)
-      (omega (arith, m .within)) (c .pre .kind)
+    (omega (arith, m .within)) (c .pre .kind)

@@ -9,6 +9,7 @@ returns-then-self-ge6 c =
     (full (c .args .self .now .open) (c .args .self .now .depth) (c .pre .0) (c .args .o) _ (omega arith), c .pre)
 
 pub returns : need.returns
-returns c =
-    (begun (c .args .self .now .open) (c .args .self .now .depth) (c .pre .0) (c .args .o) (omega arith),
-      (length-set (c .args .self .now .open) (c .args .self .now .depth) (c .args .o) ∙ c .pre .0, omega arith))
+returns c = (
+  begun (c .args .self .now .open) (c .args .self .now .depth) (c .pre .0) (c .args .o) (omega arith),
+  (length-set (c .args .self .now .open) (c .args .self .now .depth) (c .args .o) ∙ c .pre .0, omega arith),
+)

@@ -8,10 +8,11 @@ use Rattle.sheet.proofs.nesting.Nest.turn.Needs as need
 pub returns-in-First : need.returns-in-First
 returns-in-First c =
     let xs = c .args .self .now .open in
-    let n = c .args .self .now .depth in
-    (moved-turn xs n (c .pre .0) First (omega arith) (c .pre .1) (c .in-First .is) _ _
-      (refl, retopped xs n (c .pre .0) First (omega arith) (c .pre .1) (c .in-First .is) Second),
-      (length-set xs _ Second ∙ c .pre .0, c .pre .1))
+    let n = c .args .self .now .depth in (
+      moved-turn xs n (c .pre .0) First (omega arith) (c .pre .1) (c .in-First .is) _ _
+          (refl, retopped xs n (c .pre .0) First (omega arith) (c .pre .1) (c .in-First .is) Second),
+      (length-set xs _ Second ∙ c .pre .0, c .pre .1),
+    )
 
 pub returns-in-Second : need.returns-in-Second
 returns-in-Second c =
