@@ -1,0 +1,134 @@
+// Spreads the marks of a sheet's cells over its lines, for any kind of marks.
+ghost use mathlib.Core.Path.{_≡_};
+ghost use mathlib.Core.Bool.{true, false};
+ghost use Prim.Native.Nat.{ℕ, _+_, _*_, _<_, _≤_};
+ghost use lib.ListN.{length, getD, set, take, drop};
+ghost use Rattle.sheet.specs.Code.{Code, Keeps};
+ghost use Rattle.sheet.specs.Layout.{Rising};
+ghost use Rattle.sheet.specs.Spans.{Spans, endOf};
+ghost use Rattle.marking.specs.Rules.{AtLeast, Least};
+ghost use Rattle.marking.specs.Spread.{marking, Passed, Reads, Started};
+use crate::kinds::Mark;
+use sheet::Line;
+
+// The number that an `else` line has of its `end`.
+fn end_of(line: Line) -> usize
+    ensures { λ r. ⌜ r ≡ endOf line ⌝ }
+{
+    match line {
+        Line::Else { partner } => partner,
+        Line::Work { .. } => 0,
+        Line::Literal { .. } => 0,
+        Line::If { .. } => 0,
+        Line::End { .. } => 0,
+        Line::Loop { .. } => 0,
+    }
+}
+
+fn mark_of<M: Mark>(marks: &[M], cell: u8) -> M
+    requires { ⌜ cell < length (now marks) ⌝ }
+    ensures { λ r. ⌜ r ≡ marking unmarked (now (marks .entry)) cell ⌝ }
+{
+    marks[cell as usize]
+}
+
+// Joins `mark` to the mark of a cell, and says whether that raised it.
+fn raise<M: Mark>(marks: &mut [M], cell: u8, mark: M) -> bool
+    requires { ⌜ cell < length (now marks) ⌝ }
+    ensures after { λ _. ⌜ now (marks .exit) ≡ set (now (marks .entry)) cell (joined (marking unmarked (now (marks .entry)) cell) mark) ⌝ }
+    ensures rose { λ r. ⌜ (r ≡ true → AtLeast joined (marking unmarked (now (marks .entry)) cell) mark → ⊥) ⌝ }
+    ensures stayed { λ r. ⌜ (r ≡ false → AtLeast joined (marking unmarked (now (marks .entry)) cell) mark) ⌝ }
+{
+    let old = mark_of(marks, cell);
+    if old.at_least(mark) {
+        return false;
+    }
+    marks[cell as usize] = old.join(mark);
+    true
+}
+
+// Goes once through the lines from `from` up to `to`, which stand under conditions whose marks, joined, are `around`.
+// What a line writes gets the marks of what it reads and of those conditions. Says whether any mark rose.
+fn spread_block<M: Mark>(lines: &[Line], from: usize, to: usize, around: M, marks: &mut [M]) -> bool
+    requires reads { ⌜ Reads (now lines) (length (now marks)) from to ⌝ }
+    requires ordered { ⌜ from ≤ to ⌝ }
+    requires inside { ⌜ to ≤ length (now lines) ⌝ }
+    ensures { λ r. ⌜ Passed joined unmarked rank (now (lines .entry)) from to around (now (marks .entry)) (now (marks .exit)) r ⌝ }
+{
+    let mut i = from;
+    let mut rose = false;
+    while i < to {
+        let line = lines[i];
+        match line {
+            Line::Work { target, a, b, .. } => {
+                let read = mark_of(marks, a).join(mark_of(marks, b));
+                rose |= raise(marks, target, read.join(around));
+                i += 1;
+            }
+            Line::Literal { target, .. } => {
+                rose |= raise(marks, target, around);
+                i += 1;
+            }
+            Line::If { cell, partner } => {
+                let inside = around.join(mark_of(marks, cell));
+                let end = end_of(lines[partner]);
+                rose |= spread_block(lines, i + 1, partner, inside, marks);
+                rose |= spread_block(lines, partner + 1, end, inside, marks);
+                i = end + 1;
+            }
+            Line::Loop { cell, partner, .. } => {
+                let inside = around.join(mark_of(marks, cell));
+                rose |= spread_block(lines, i + 1, partner, inside, marks);
+                i = partner + 1;
+            }
+            Line::Else { .. } => unreachable(),
+            Line::End { .. } => unreachable(),
+        }
+    }
+    rose
+}
+
+// Gives each marked cell its own mark, and every other cell none.
+fn start<M: Mark>(marked: &[u8], marks: &mut [M])
+    requires { ⌜ Rising (length (now marks)) 0 (now marked) ⌝ }
+    ensures { λ _. ⌜ Started joined unmarked owned (now (marked .entry)) (now (marks .exit)) ⌝ }
+{
+    for mark in marks.iter_mut() {
+        *mark = M::none();
+    }
+    for cell in marked {
+        let _ = raise(marks, *cell, M::own(*cell));
+    }
+}
+
+// Starts from the own marks and goes through the lines until no mark rises. Returns how often it went through them.
+fn settle<M: Mark>(lines: &[Line], count: usize, marked: &[u8], marks: &mut [M]) -> usize
+    requires reads { ⌜ Reads (now lines) (length (now marks)) 0 count ⌝ }
+    requires inside { ⌜ count ≤ length (now lines) ⌝ }
+    requires few { ⌜ length (now marks) ≤ 64 ⌝ }
+    requires rising { ⌜ Rising (length (now marks)) 0 (now marked) ⌝ }
+    ensures least { λ _. ⌜ ((c : Code) → Spans (now (lines .entry)) 0 count c → Least joined owned (marking unmarked (now (marks .exit))) (now (marked .entry)) c) ⌝ }
+    ensures passes { λ r. ⌜ r ≤ height * length (now (marks .entry)) + 1 ⌝ }
+{
+    start(marked, marks);
+    let mut passes = 1;
+    while spread_block(lines, 0, count, M::none(), marks) {
+        passes += 1;
+    }
+    passes
+}
+
+// The least marking of the first `cells` cells, into the first `cells` marks. Returns how often it went through the lines.
+pub(crate) fn mark_lines<M: Mark>(lines: &[Line], count: usize, marked: &[u8], cells: usize, marks: &mut [M]) -> usize
+    requires reads { ⌜ ((c : Code) × Spans (now lines) 0 count c × Keeps cells 6 c) ⌝ }
+    requires inside { ⌜ count ≤ length (now lines) ⌝ }
+    requires room { ⌜ cells ≤ length (now marks) ⌝ }
+    requires few { ⌜ cells ≤ 64 ⌝ }
+    requires rising { ⌜ Rising cells 0 (now marked) ⌝ }
+    ensures least { λ _. ⌜ ((c : Code) → Spans (now (lines .entry)) 0 count c → Least joined owned (marking unmarked (take cells (now (marks .exit)))) (now (marked .entry)) c) ⌝ }
+    ensures rest { λ _. ⌜ drop cells (now (marks .exit)) ≡ drop cells (now (marks .entry)) ⌝ }
+    ensures long { λ _. ⌜ length (now (marks .exit)) ≡ length (now (marks .entry)) ⌝ }
+    ensures passes { λ r. ⌜ r ≤ height * cells + 1 ⌝ }
+{
+    settle(lines, count, marked, &mut marks[..cells])
+}
