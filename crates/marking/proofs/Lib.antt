@@ -5,3 +5,4 @@ pub mod Contexts
 pub mod Views
 pub mod Steps
 pub mod Starts
+pub mod Ends

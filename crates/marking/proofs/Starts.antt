@@ -13,7 +13,7 @@ rising-below n low [] h k l = absurd (omega arith)
 rising-below n low (c ∷ cs) h zero l = h .1
 rising-below n low (c ∷ cs) h (suc k) l = rising-below n (c + 1) cs (h .2) k (omega arith)
 
-module _ {M : Type 0} {join : M → M → M} {own : ℕ → M} where
+module _ {M : Type 0} (join : M → M → M) (own : ℕ → M) where
   pub owns-at : (m : ℕ → M) (cs : List ℕ) → Owns join own m cs → (k : ℕ) → k < length cs → AtLeast join (m (getD cs k 0)) (own (getD cs k 0))
   owns-at m [] h k l = absurd (omega arith)
   owns-at m (c ∷ cs) h zero l = h .0
