@@ -16,6 +16,14 @@ pub struct Origins {
 }
 
 impl Origins {
+    fn of(members: u64) -> Origins
+        ensures { λ r. ⌜ r .members ≡ members ⌝ }
+    {
+        Origins {
+            members,
+        }
+    }
+
     pub fn contains(&self, cell: u8) -> bool
         ensures yes { λ r. ⌜ (r ≡ true → Has (now (self .entry) .members) cell) ⌝ }
         ensures no { λ r. ⌜ (r ≡ false → Has (now (self .entry) .members) cell → ⊥) ⌝ }

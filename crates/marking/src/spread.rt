@@ -32,6 +32,23 @@ fn mark_of<M: Mark>(marks: &[M], cell: u8) -> M
     marks[cell as usize]
 }
 
+// The mark that a work line gives to its target: those of the two cells that it reads, and of the conditions around it.
+fn given_mark<M: Mark>(marks: &[M], a: u8, b: u8, around: M) -> M
+    requires left { ⌜ a < length (now marks) ⌝ }
+    requires right { ⌜ b < length (now marks) ⌝ }
+    ensures { λ r. ⌜ r ≡ joined (joined (marking unmarked (now (marks .entry)) a) (marking unmarked (now (marks .entry)) b)) around ⌝ }
+{
+    mark_of(marks, a).join(mark_of(marks, b)).join(around)
+}
+
+// The joined mark of the conditions around the blocks of a construct: one more than around the construct itself.
+fn around_blocks<M: Mark>(marks: &[M], cell: u8, around: M) -> M
+    requires { ⌜ cell < length (now marks) ⌝ }
+    ensures { λ r. ⌜ r ≡ joined around (marking unmarked (now (marks .entry)) cell) ⌝ }
+{
+    around.join(mark_of(marks, cell))
+}
+
 // Joins `mark` to the mark of a cell, and says whether that raised it.
 fn raise<M: Mark>(marks: &mut [M], cell: u8, mark: M) -> bool
     requires { ⌜ cell < length (now marks) ⌝ }
@@ -61,8 +78,8 @@ fn spread_block<M: Mark>(lines: &[Line], from: usize, to: usize, around: M, mark
         let line = lines[i];
         match line {
             Line::Work { target, a, b, .. } => {
-                let read = mark_of(marks, a).join(mark_of(marks, b));
-                rose |= raise(marks, target, read.join(around));
+                let mark = given_mark(marks, a, b, around);
+                rose |= raise(marks, target, mark);
                 i += 1;
             }
             Line::Literal { target, .. } => {
@@ -70,14 +87,14 @@ fn spread_block<M: Mark>(lines: &[Line], from: usize, to: usize, around: M, mark
                 i += 1;
             }
             Line::If { cell, partner } => {
-                let inside = around.join(mark_of(marks, cell));
+                let inside = around_blocks(marks, cell, around);
                 let end = end_of(lines[partner]);
                 rose |= spread_block(lines, i + 1, partner, inside, marks);
                 rose |= spread_block(lines, partner + 1, end, inside, marks);
                 i = end + 1;
             }
             Line::Loop { cell, partner, .. } => {
-                let inside = around.join(mark_of(marks, cell));
+                let inside = around_blocks(marks, cell, around);
                 rose |= spread_block(lines, i + 1, partner, inside, marks);
                 i = partner + 1;
             }
@@ -88,14 +105,20 @@ fn spread_block<M: Mark>(lines: &[Line], from: usize, to: usize, around: M, mark
     rose
 }
 
+fn clear<M: Mark>(marks: &mut [M])
+    ensures { λ _. ⌜ ((x : ℕ) → x < length (now (marks .exit)) → marking unmarked (now (marks .exit)) x ≡ unmarked) ⌝ }
+{
+    for mark in marks.iter_mut() {
+        *mark = M::none();
+    }
+}
+
 // Gives each marked cell its own mark, and every other cell none.
 fn start<M: Mark>(marked: &[u8], marks: &mut [M])
     requires { ⌜ Rising (length (now marks)) 0 (now marked) ⌝ }
     ensures { λ _. ⌜ Started joined unmarked owned (now (marked .entry)) (now (marks .exit)) ⌝ }
 {
-    for mark in marks.iter_mut() {
-        *mark = M::none();
-    }
+    clear(marks);
     for cell in marked {
         let _ = raise(marks, *cell, M::own(*cell));
     }

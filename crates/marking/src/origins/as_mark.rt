@@ -16,19 +16,16 @@ pub impl Mark for Origins as OriginSet {
     ghost height = { 64 };
 
     fn none() -> Origins {
-        Origins { members: 0 }
+        Origins::of(0)
     }
 
     fn own(cell: u8) -> Origins {
-        Origins {
-            members: if cell < 64 { 1 << cell } else { 0 },
-        }
+        let members = if cell < 64 { 1 << cell } else { 0 };
+        Origins::of(members)
     }
 
     fn join(self, other: Origins) -> Origins {
-        Origins {
-            members: self.members | other.members,
-        }
+        Origins::of(self.members | other.members)
     }
 
     fn at_least(self, other: Origins) -> bool {

@@ -18,15 +18,10 @@ laws g =
 
 -- work lines
 
-pub mark-of-requires : need.mark-of-requires
-mark-of-requires g t c κs =
+pub given-mark-mark-requires : need.given-mark-mark-requires
+given-mark-mark-requires g t c κs =
     let v = reads-work _ _ _ _ (omega arith) (c .loop-i .inv .2) _ _ _ _ (c .in-Work .is) in
-    omega (arith, v .left, c .loop-i .kept .marks)
-
-pub mark-of-requires-in-Work : need.mark-of-requires-in-Work
-mark-of-requires-in-Work g t c κs =
-    let v = reads-work _ _ _ _ (omega arith) (c .loop-i .inv .2) _ _ _ _ (c .in-Work .is) in
-    omega (arith, v .right, c .loop-i .kept .marks)
+    record { left = omega (arith, v .left, c .loop-i .kept .marks); right = omega (arith, v .right, c .loop-i .kept .marks) }
 
 pub raise-rose-requires : need.raise-rose-requires
 raise-rose-requires g t c κs =
@@ -41,12 +36,12 @@ loop-i-again-in-Work g t c =
     let ts = c .loop-i .marks in
     let us = c .raise-rose .last .marks in
     let w = c .args .around in
-    let mark : c .join .result ≡ join (join (marking none ts (c .in-Work .a)) (marking none ts (c .in-Work .b))) w = cc in
-    let d : Raised join none ts us (c .in-Work .target) (c .join .result) (c .raise-rose .result) =
+    let q = c .raise-rose .result in
+    let d : Raised join none ts us (c .in-Work .target) (c .given-mark-mark .result) q =
         record { inside = omega (arith, v .target, c .loop-i .kept .marks); after = c .raise-rose .ensures .after; rises = c .raise-rose .ensures .rose; stays = c .raise-rose .ensures .stayed } in
-    let d′ = subst (λ y. Raised join none ts us (c .in-Work .target) y (c .raise-rose .result)) mark d in
+    let d′ = subst (λ y. Raised join none ts us (c .in-Work .target) y q) (c .given-mark-mark .ensures) d in
     (omega arith, omega arith, v .rest,
-      λ vs r n. or-more (λ q. Passed join none (g .M·Mark .rank) (c .args .lines .now) (c .args .from) (c .args .to) w (c .args .marks .now) vs q) (c .loop-i .rose) (c .raise-rose .result) r
+      λ vs r n. or-more (λ q. Passed join none (g .M·Mark .rank) (c .args .lines .now) (c .args .from) (c .args .to) w (c .args .marks .now) vs q) (c .loop-i .rose) q r
         (c .loop-i .inv .3 vs _ (pass-work (laws g) (c .args .lines .now) w (c .loop-i .i) (c .args .to) (omega arith) ts us vs _ _ _ _ _ _ (c .in-Work .is) d′ n)))
 
 -- literal lines
@@ -73,8 +68,8 @@ loop-i-again-in-Literal g t c =
 
 -- an if
 
-pub mark-of-requires-in-If : need.mark-of-requires-in-If
-mark-of-requires-in-If g t c κs =
+pub around-blocks-inside-requires : need.around-blocks-inside-requires
+around-blocks-inside-requires g t c κs =
     let v = reads-if _ _ _ _ (omega arith) (c .loop-i .inv .2) _ _ _ (c .in-If .is) refl in
     omega (arith, v .cell, c .loop-i .kept .marks)
 
@@ -139,7 +134,7 @@ loop-i-again-in-If g t c =
     let w = c .args .around in
     let r₁ = c .spread-block-rose .result in
     let r₂ = c .spread-block-rose-in-If .result in
-    let inside : c .join-inside .result ≡ join w (marking none ts (c .in-If .cell)) = cc in
+    let inside = c .around-blocks-inside .ensures in
     let d₁ = subst (λ y. Passed join none (g .M·Mark .rank) xs (i + 1) k y ts us r₁) inside (c .spread-block-rose .ensures) in
     let d₂ = subst (λ y. Passed join none (g .M·Mark .rank) xs (k + 1) z y us us′ r₂) inside (c .spread-block-rose-in-If .ensures) in
     (omega (arith, v .le-first, v .le-second), v .le-rest, v .rest,
@@ -150,8 +145,8 @@ loop-i-again-in-If g t c =
 
 -- a loop
 
-pub mark-of-requires-in-Loop : need.mark-of-requires-in-Loop
-mark-of-requires-in-Loop g t c κs =
+pub around-blocks-inside-requires-in-Loop : need.around-blocks-inside-requires-in-Loop
+around-blocks-inside-requires-in-Loop g t c κs =
     let v = reads-loop _ _ _ _ (omega arith) (c .loop-i .inv .2) _ _ _ (c .in-Loop .is) in
     omega (arith, v .cell, c .loop-i .kept .marks)
 
@@ -186,7 +181,7 @@ loop-i-again g t c =
     let us = c .spread-block-rose-in-Loop .last .marks in
     let w = c .args .around in
     let r₁ = c .spread-block-rose-in-Loop .result in
-    let inside : c .join-inside-in-Loop .result ≡ join w (marking none ts (c .in-Loop .cell)) = cc in
+    let inside = c .around-blocks-inside-in-Loop .ensures in
     let d = subst (λ y. Passed join none (g .M·Mark .rank) xs (i + 1) z y ts us r₁) inside (c .spread-block-rose-in-Loop .ensures) in
     (omega (arith, v .le-first), v .le-rest, v .rest,
       λ vs r n. or-more (λ q. Passed join none (g .M·Mark .rank) xs (c .args .from) (c .args .to) w (c .args .marks .now) vs q) (c .loop-i .rose) r₁ r

@@ -2,7 +2,7 @@ use mathlib.Core.Path.{_≡_, refl, sym, _∙_, ap, subst}
 use mathlib.Core.Logic.{_⊎_, inl, inr}
 use Prim.Native.Nat.{ℕ, _+_, _<_, _≤_}
 use native.Mathlib.Omega.{arith}
-use borrow.Author.Count.{below-more}
+use borrow.Author.Count.{below-none, below-more}
 use lib.ListN.{getD, length}
 use Rattle.std.proofs.shelf.Lists.{getD-past}
 use Rattle.std.proofs.shelf.Tests.{cases-lt}
@@ -23,10 +23,10 @@ laws g =
 pub loop-cell-holds : need.loop-cell-holds
 loop-cell-holds g c =
     let none = g .M·Mark .unmarked in
-    let ts = c .loop-mark .marks in
+    let ts = c .clear .last .marks in
     let empty : (x : ℕ) → marking none ts x ≡ none =
-        λ x. elim (cases-lt x (length ts)) [ inl h ↦ c .loop-mark .inv x (omega arith) | inr h ↦ getD-past ts x none h ] in
-    (λ k h. absurd (omega arith), λ m o x. subst (AtLeast (g .M·Mark .joined) (m x)) (sym (empty x)) (above-none (laws g) (m x)))
+        λ x. elim (cases-lt x (length ts)) [ inl h ↦ c .clear .ensures x h | inr h ↦ getD-past ts x none h ] in
+    (below-none _, λ m o x. subst (AtLeast (g .M·Mark .joined) (m x)) (sym (empty x)) (above-none (laws g) (m x)))
 
 pub raise-requires : need.raise-requires
 raise-requires g c κs =

@@ -1,12 +1,8 @@
-use mathlib.Core.Path.{_≡_}
 use Prim.Native.Nat.{ℕ, _<_}
 use lib.ListN.{getD}
 use Rattle.marking.specs.Rules.{AtLeast, Owns}
 use Rattle.marking.specs.Spread.{marking, Below}
 use Rattle.marking.proofs.spread.start.Given as given
-
-abbrev pub Inv-loop-mark : given.InvT-loop-mark
-Inv-loop-mark g l = (k : ℕ) → k < l .mark-index → marking (g .M·Mark .unmarked) (l .marks) k ≡ g .M·Mark .unmarked
 
 -- the cells so far have their own marks, and no mark is above what all of them ask for
 abbrev pub Inv-loop-cell : given.InvT-loop-cell
