@@ -27,6 +27,7 @@ module _ {M : Type 0} {join : M → M → M} {none : M} {rank : M → ℕ} {heig
     pub least-end : r ≡ false → Owns join own (marking none ts) marks → (c : Code) → Spans xs 0 n c → Least join own (marking none us) marks c
     least-end e o c h =
         subst (λ y. Least join own (marking none y) marks c) (sym (d .moved .still e))
-          record
-            { meets = record { owns = o; follows = to-conditions l (marking none ts) w [] tt c (d .meets e c h) }
-            ; least = low c h }
+        record {
+          meets = record { owns = o; follows = to-conditions l (marking none ts) w [] tt c (d .meets e c h) };
+          least = low c h;
+        }

@@ -25,6 +25,6 @@ module _ {M : Type 0} (join : M → M → M) (own : ℕ → M) where
 
   -- a marking that grows keeps the own marks
   pub owns-more : {none : M} {rank : M → ℕ} {height : ℕ} → Laws join none rank height →
-    (m n : ℕ → M) → ((x : ℕ) → AtLeast join (n x) (m x)) → (cs : List ℕ) → Owns join own m cs → Owns join own n cs
+      (m n : ℕ → M) → ((x : ℕ) → AtLeast join (n x) (m x)) → (cs : List ℕ) → Owns join own m cs → Owns join own n cs
   owns-more l m n up [] h = tt
   owns-more l m n up (c ∷ cs) h = (above-trans l (n c) (m c) (own c) (up c) (h .0), owns-more l m n up cs (h .1))

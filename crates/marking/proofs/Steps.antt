@@ -45,47 +45,52 @@ module _ {M : Type 0} {join : M → M → M} {none : M} {rank : M → ℕ} {heig
 
     pub pass-none : (i j : ℕ) (ts : List M) → i ≡ j → Pass i j ts ts false
     pass-none i j ts e =
-        record
-          { moved = moved-not l ts
-          ; meets = λ _ c h. subst (FollowsUnder join (marking none ts) w) (sym (spans-none xs i j c e h)) tt
-          ; below = λ c h m f b. b }
+        record {
+          moved = moved-not l ts;
+          meets = λ _ c h. subst (FollowsUnder join (marking none ts) w) (sym (spans-none xs i j c e h)) tt;
+          below = λ c h m f b. b;
+        }
 
     module _ (i j : ℕ) (more : i ≡ j → ⊥) (ts : List M) where
       pub pass-work : (us vs : List M) (t o a b : ℕ) (r q : Bool) → lineAt xs i ≡ Work t o a b →
-        Raised join none ts us t (join (join (marking none ts a) (marking none ts b)) w) r → Pass (i + 1) j us vs q → Pass i j ts vs (r || q)
+          Raised join none ts us t (join (join (marking none ts a) (marking none ts b)) w) r → Pass (i + 1) j us vs q → Pass i j ts vs (r || q)
       pass-work us vs t o a b r q e d n =
           let reads = join (marking none ts a) (marking none ts b) in
           let mv = raise-moved ts us t (join reads w) r d in
-          record
-            { moved = moved-then l ts us vs r q mv (n .moved)
-            ; meets = λ s c h.
+          record {
+            moved = moved-then l ts us vs r q mv (n .moved);
+            meets = λ s c h.
                 let k = at-work xs i j more t o a b e c h in
                 let s′ = or-parts r q s in
                 let up = d .stays (s′ .0) in
-                subst (FollowsUnder join (marking none ts) w) (sym (k .is))
-                  (above-trans l _ (join reads w) reads up (above-left l reads w), above-trans l _ (join reads w) w up (above-right l reads w),
-                    subst (λ y. FollowsUnder join (marking none y) w (k .rest)) (mv .still (s′ .0)) (n .meets (s′ .1) (k .rest) (k .spans)))
-            ; below = λ c h m f low.
+                subst (FollowsUnder join (marking none ts) w) (sym (k .is)) (
+                  above-trans l _ (join reads w) reads up (above-left l reads w),
+                  above-trans l _ (join reads w) w up (above-right l reads w),
+                  subst (λ y. FollowsUnder join (marking none y) w (k .rest)) (mv .still (s′ .0)) (n .meets (s′ .1) (k .rest) (k .spans)),
+                );
+            below = λ c h m f low.
                 let k = at-work xs i j more t o a b e c h in
                 let f′ = subst (FollowsUnder join m w) (k .is) f in
                 let up = above-join l (m t) reads w (above-trans l (m t) (join (m a) (m b)) reads (f′ .0) (above-joins l (m a) _ (m b) _ (low a) (low b))) (f′ .1) in
-                n .below (k .rest) (k .spans) m (f′ .2) (raise-below ts us t (join reads w) r d m up low) }
+                n .below (k .rest) (k .spans) m (f′ .2) (raise-below ts us t (join reads w) r d m up low);
+          }
 
       pub pass-literal : (us vs : List M) (t k : ℕ) (r q : Bool) → lineAt xs i ≡ Literal t k →
-        Raised join none ts us t w r → Pass (i + 1) j us vs q → Pass i j ts vs (r || q)
+          Raised join none ts us t w r → Pass (i + 1) j us vs q → Pass i j ts vs (r || q)
       pass-literal us vs t k r q e d n =
           let mv = raise-moved ts us t w r d in
-          record
-            { moved = moved-then l ts us vs r q mv (n .moved)
-            ; meets = λ s c h.
+          record {
+            moved = moved-then l ts us vs r q mv (n .moved);
+            meets = λ s c h.
                 let v = at-literal xs i j more t k e c h in
                 let s′ = or-parts r q s in
                 subst (FollowsUnder join (marking none ts) w) (sym (v .is))
-                  (d .stays (s′ .0), subst (λ y. FollowsUnder join (marking none y) w (v .rest)) (mv .still (s′ .0)) (n .meets (s′ .1) (v .rest) (v .spans)))
-            ; below = λ c h m f low.
+                (d .stays (s′ .0), subst (λ y. FollowsUnder join (marking none y) w (v .rest)) (mv .still (s′ .0)) (n .meets (s′ .1) (v .rest) (v .spans)));
+            below = λ c h m f low.
                 let v = at-literal xs i j more t k e c h in
                 let f′ = subst (FollowsUnder join m w) (v .is) f in
-                n .below (v .rest) (v .spans) m (f′ .1) (raise-below ts us t w r d m (f′ .0) low) }
+                n .below (v .rest) (v .spans) m (f′ .1) (raise-below ts us t w r d m (f′ .0) low);
+          }
 
       -- a construct on the cell x: what its blocks stand under
       abbrev In : ℕ → M
@@ -95,42 +100,46 @@ module _ {M : Type 0} {join : M → M → M} {none : M} {rank : M → ℕ} {heig
       under m low x p f = follows-less l m (join w (m x)) (In x) (above-joins l w w (m x) _ (l .idem w) (low x)) p f
 
       pub pass-loop : (us vs : List M) (x k z : ℕ) (r q : Bool) → lineAt xs i ≡ Loop x k z →
-        Passed join none rank xs (i + 1) z (In x) ts us r → Pass (z + 1) j us vs q → Pass i j ts vs (r || q)
+          Passed join none rank xs (i + 1) z (In x) ts us r → Pass (z + 1) j us vs q → Pass i j ts vs (r || q)
       pass-loop us vs x k z r q e d n =
-          record
-            { moved = moved-then l ts us vs r q (d .moved) (n .moved)
-            ; meets = λ s c h.
+          record {
+            moved = moved-then l ts us vs r q (d .moved) (n .moved);
+            meets = λ s c h.
                 let v = at-loop xs i j more x k z e c h in
                 let s′ = or-parts r q s in
-                subst (FollowsUnder join (marking none ts) w) (sym (v .is))
-                  (d .meets (s′ .0) (v .first) (v .spans-first),
-                    subst (λ y. FollowsUnder join (marking none y) w (v .rest)) (d .moved .still (s′ .0)) (n .meets (s′ .1) (v .rest) (v .spans-rest)))
-            ; below = λ c h m f low.
+                subst (FollowsUnder join (marking none ts) w) (sym (v .is)) (
+                  d .meets (s′ .0) (v .first) (v .spans-first),
+                  subst (λ y. FollowsUnder join (marking none y) w (v .rest)) (d .moved .still (s′ .0)) (n .meets (s′ .1) (v .rest) (v .spans-rest)),
+                );
+            below = λ c h m f low.
                 let v = at-loop xs i j more x k z e c h in
                 let f′ = subst (FollowsUnder join m w) (v .is) f in
-                n .below (v .rest) (v .spans-rest) m (f′ .1) (d .below (v .first) (v .spans-first) m (under m low x (v .first) (f′ .0)) low) }
+                n .below (v .rest) (v .spans-rest) m (f′ .1) (d .below (v .first) (v .spans-first) m (under m low x (v .first) (f′ .0)) low);
+          }
 
       pub pass-if : (us us′ vs : List M) (x k z : ℕ) (r r′ q : Bool) → lineAt xs i ≡ If x k → z ≡ endOf (lineAt xs k) →
-        Passed join none rank xs (i + 1) k (In x) ts us r → Passed join none rank xs (k + 1) z (In x) us us′ r′ → Pass (z + 1) j us′ vs q → Pass i j ts vs (r || (r′ || q))
+          Passed join none rank xs (i + 1) k (In x) ts us r → Passed join none rank xs (k + 1) z (In x) us us′ r′ → Pass (z + 1) j us′ vs q → Pass i j ts vs (r || (r′ || q))
       pass-if us us′ vs x k z r r′ q e ez d d′ n =
-          record
-            { moved = moved-then l ts us vs r (r′ || q) (d .moved) (moved-then l us us′ vs r′ q (d′ .moved) (n .moved))
-            ; meets = λ s c h.
+          record {
+            moved = moved-then l ts us vs r (r′ || q) (d .moved) (moved-then l us us′ vs r′ q (d′ .moved) (n .moved));
+            meets = λ s c h.
                 let v = at-if xs i j more x k e c h in
                 let zz : v .z ≡ z = sym (ez ∙ ap endOf (v .mid)) in
                 let s₁ = or-parts r (r′ || q) s in
                 let s₂ = or-parts r′ q (s₁ .1) in
                 let same = d .moved .still (s₁ .0) in
-                subst (FollowsUnder join (marking none ts) w) (sym (v .is))
-                  (d .meets (s₁ .0) (v .first) (v .spans-first),
-                    subst (λ y. FollowsUnder join (marking none y) (In x) (v .second)) same
+                subst (FollowsUnder join (marking none ts) w) (sym (v .is)) (
+                  d .meets (s₁ .0) (v .first) (v .spans-first),
+                  subst (λ y. FollowsUnder join (marking none y) (In x) (v .second)) same
                       (d′ .meets (s₂ .0) (v .second) (subst (λ y. Spans xs (k + 1) y (v .second)) zz (v .spans-second))),
-                    subst (λ y. FollowsUnder join (marking none y) w (v .rest)) (d′ .moved .still (s₂ .0) ∙ same)
-                      (n .meets (s₂ .1) (v .rest) (subst (λ y. Spans xs (y + 1) j (v .rest)) zz (v .spans-rest))))
-            ; below = λ c h m f low.
+                  subst (λ y. FollowsUnder join (marking none y) w (v .rest)) (d′ .moved .still (s₂ .0) ∙ same)
+                      (n .meets (s₂ .1) (v .rest) (subst (λ y. Spans xs (y + 1) j (v .rest)) zz (v .spans-rest))),
+                );
+            below = λ c h m f low.
                 let v = at-if xs i j more x k e c h in
                 let zz : v .z ≡ z = sym (ez ∙ ap endOf (v .mid)) in
                 let f′ = subst (FollowsUnder join m w) (v .is) f in
                 let low₁ = d .below (v .first) (v .spans-first) m (under m low x (v .first) (f′ .0)) low in
                 let low₂ = d′ .below (v .second) (subst (λ y. Spans xs (k + 1) y (v .second)) zz (v .spans-second)) m (under m low x (v .second) (f′ .1)) low₁ in
-                n .below (v .rest) (subst (λ y. Spans xs (y + 1) j (v .rest)) zz (v .spans-rest)) m (f′ .2) low₂ }
+                n .below (v .rest) (subst (λ y. Spans xs (y + 1) j (v .rest)) zz (v .spans-rest)) m (f′ .2) low₂;
+          }

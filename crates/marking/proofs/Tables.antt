@@ -31,15 +31,17 @@ module _ {M : Type 0} {join : M → M → M} {none : M} {rank : M → ℕ} {heig
 
   pub moved-then : (ts us vs : List M) (r q : Bool) → Goes ts us r → Goes us vs q → Goes ts vs (r || q)
   moved-then ts us vs r q a b =
-      record
-        { long = b .long ∙ a .long
-        ; grown = λ x. above-trans l (marking none vs x) (marking none us x) (marking none ts x) (b .grown x) (a .grown x)
-        ; still = still r q a b
-        ; more = more r q a b }
+      record {
+        long = b .long ∙ a .long;
+        grown = λ x. above-trans l (marking none vs x) (marking none us x) (marking none ts x) (b .grown x) (a .grown x);
+        still = still r q a b;
+        more = more r q a b;
+      }
     where
       still : (r q : Bool) → Goes ts us r → Goes us vs q → (r || q) ≡ false → vs ≡ ts
       still true q a b e = absurd (true≢false e)
       still false q a b e = b .still e ∙ a .still refl
+
       more : (r q : Bool) → Goes ts us r → Goes us vs q → (r || q) ≡ true → total rank ts < total rank vs
       more true true a b e = omega (arith, a .more refl, b .more refl)
       more true false a b e = omega (arith, a .more refl, ap (total rank) (b .still refl))
@@ -58,22 +60,25 @@ module _ {M : Type 0} {join : M → M → M} {none : M} {rank : M → ℕ} {heig
 
     pub raised-below : (m : ℕ → M) → AtLeast join (m i) v → Below join none ts m → Below join none raised m
     raised-below m p b x =
-        elim (cases-eq x i)
-          [ inl e ↦
+        elim (cases-eq x i) [
+          | inl e ↦
               subst (λ y. AtLeast join (m y) (marking none raised y)) (sym e)
-                (subst (AtLeast join (m i)) (sym same-raised) (above-join l (m i) (marking none ts i) v (b i) p))
-          | inr ne ↦ subst (AtLeast join (m x)) (sym (getD-set-other ts i x (join (marking none ts i) v) none ne)) (b x) ]
+              (subst (AtLeast join (m i)) (sym same-raised) (above-join l (m i) (marking none ts i) v (b i) p))
+          | inr ne ↦ subst (AtLeast join (m x)) (sym (getD-set-other ts i x (join (marking none ts i) v) none ne)) (b x)
+        ]
 
     pub raised-moved : (r : Bool) → (r ≡ true → AtLeast join (marking none ts i) v → ⊥) → (r ≡ false → AtLeast join (marking none ts i) v) → Goes ts raised r
     raised-moved r rises stays =
-        record
-          { long = length-set ts i (join (marking none ts i) v)
-          ; grown = λ x.
-              elim (cases-eq x i)
-                [ inl e ↦
+        record {
+          long = length-set ts i (join (marking none ts i) v);
+          grown = λ x.
+              elim (cases-eq x i) [
+                | inl e ↦
                     subst (λ y. AtLeast join (marking none raised y) (marking none ts y)) (sym e)
-                      (subst (λ y. AtLeast join y (marking none ts i)) (sym same-raised) (above-left l (marking none ts i) v))
+                    (subst (λ y. AtLeast join y (marking none ts i)) (sym same-raised) (above-left l (marking none ts i) v))
                 | inr ne ↦
-                    subst (λ y. AtLeast join y (marking none ts x)) (sym (getD-set-other ts i x (join (marking none ts i) v) none ne)) (l .idem (marking none ts x)) ]
-          ; still = λ e. ap (set ts i) (stays e) ∙ set-getD ts i none
-          ; more = λ e. omega (arith, total-set ts i (join (marking none ts i) v) h, l .rises (marking none ts i) v (rises e)) }
+                    subst (λ y. AtLeast join y (marking none ts x)) (sym (getD-set-other ts i x (join (marking none ts i) v) none ne)) (l .idem (marking none ts x))
+              ];
+          still = λ e. ap (set ts i) (stays e) ∙ set-getD ts i none;
+          more = λ e. omega (arith, total-set ts i (join (marking none ts i) v) h, l .rises (marking none ts i) v (rises e));
+        }

@@ -53,14 +53,15 @@ module _ (xs : List Line) (n i j : ℕ) (more : i ≡ j → ⊥) (h : Reads xs n
       let v = at-if xs i j more x k e (h .0) (h .2) in
       let g = subst (Keeps n (h .1)) (v .is) (h .3) in
       let zz : v .z ≡ z = sym (ez ∙ ap endOf (v .mid)) in
-      record
-        { cell = g .0
-        ; first = (v .first, h .1 - 1, v .spans-first, g .2)
-        ; second = (v .second, h .1 - 1, subst (λ y. Spans xs (k + 1) y (v .second)) zz (v .spans-second), g .3)
-        ; rest = (v .rest, h .1, subst (λ y. Spans xs (y + 1) j (v .rest)) zz (v .spans-rest), g .4)
-        ; le-first = v .le-first
-        ; le-second = subst (λ y. k + 1 ≤ y) zz (v .le-second)
-        ; le-rest = subst (λ y. y + 1 ≤ j) zz (v .le-rest) }
+      record {
+        cell = g .0;
+        first = (v .first, h .1 - 1, v .spans-first, g .2);
+        second = (v .second, h .1 - 1, subst (λ y. Spans xs (k + 1) y (v .second)) zz (v .spans-second), g .3);
+        rest = (v .rest, h .1, subst (λ y. Spans xs (y + 1) j (v .rest)) zz (v .spans-rest), g .4);
+        le-first = v .le-first;
+        le-second = subst (λ y. k + 1 ≤ y) zz (v .le-second);
+        le-rest = subst (λ y. y + 1 ≤ j) zz (v .le-rest);
+      }
 
   pub reads-loop : (x k z : ℕ) → lineAt xs i ≡ Loop x k z → ReadsLoop xs n i j x z
   reads-loop x k z e =

@@ -2,6 +2,7 @@
 mod kinds;
 mod origins;
 mod spread;
+
 pub use kinds::Mark;
 pub use kinds::YesNo;
 pub use origins::OriginSet;

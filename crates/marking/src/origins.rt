@@ -19,9 +19,7 @@ impl Origins {
     fn of(members: u64) -> Origins
         ensures { λ r. ⌜ r .members ≡ members ⌝ }
     {
-        Origins {
-            members,
-        }
+        Origins { members }
     }
 
     pub fn contains(&self, cell: u8) -> bool

@@ -142,7 +142,13 @@ fn settle<M: Mark>(lines: &[Line], count: usize, marked: &[u8], marks: &mut [M])
 }
 
 // The least marking of the first `cells` cells, into the first `cells` marks. Returns how often it went through the lines.
-pub(crate) fn mark_lines<M: Mark>(lines: &[Line], count: usize, marked: &[u8], cells: usize, marks: &mut [M]) -> usize
+pub(crate) fn mark_lines<M: Mark>(
+    lines: &[Line],
+    count: usize,
+    marked: &[u8],
+    cells: usize,
+    marks: &mut [M],
+) -> usize
     requires reads { ⌜ ((c : Code) × Spans (now lines) 0 count c × Keeps cells 6 c) ⌝ }
     requires inside { ⌜ count ≤ length (now lines) ⌝ }
     requires room { ⌜ cells ≤ length (now marks) ⌝ }
@@ -154,4 +160,65 @@ pub(crate) fn mark_lines<M: Mark>(lines: &[Line], count: usize, marked: &[u8], c
     ensures passes { λ r. ⌜ r ≤ height * cells + 1 ⌝ }
 {
     settle(lines, count, marked, &mut marks[..cells])
+}
+
+#[cfg(test)]
+mod tests {
+    use super::*;
+    use crate::kinds::YesNo;
+    use crate::origins::OriginSet;
+    use crate::origins::Origins;
+    use std::test::*;
+
+    // The second cell is written under the first, which is marked, and the third reads the second before that.
+    #[test]
+    fn reaches_by_condition() -> Result<(), Fail> {
+        let lines = [
+            Line::Work {
+                target: 2,
+                op: 0,
+                a: 1,
+                b: 3,
+            },
+            Line::If {
+                cell: 0,
+                partner: 3,
+            },
+            Line::Literal {
+                target: 1,
+                number: 5,
+            },
+            Line::Else { partner: 4 },
+            Line::End { partner: 1 },
+        ];
+        let mut marks = [true; 5];
+        let passes = mark_lines(&lines, 5, &[0], 4, &mut marks);
+        check(marks[0] && marks[1] && marks[2])?;
+        check(!marks[3] && marks[4])?;
+        check_eq(passes, 3)
+    }
+
+    // The second cell is written in a loop on the first and reads the third, and both are marked.
+    #[test]
+    fn names_the_origins() -> Result<(), Fail> {
+        let lines = [
+            Line::Loop {
+                cell: 0,
+                bound: 9,
+                partner: 2,
+            },
+            Line::Work {
+                target: 1,
+                op: 0,
+                a: 2,
+                b: 2,
+            },
+            Line::End { partner: 0 },
+        ];
+        let mut marks = [Origins::none(); 3];
+        let passes = mark_lines(&lines, 3, &[0, 2], 3, &mut marks);
+        check(marks[1].contains(0) && marks[1].contains(2))?;
+        check(!marks[1].contains(1) && !marks[0].contains(2))?;
+        check_eq(passes, 2)
+    }
 }

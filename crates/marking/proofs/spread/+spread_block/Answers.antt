@@ -38,11 +38,14 @@ loop-i-again-in-Work g t c =
     let w = c .args .around in
     let q = c .raise-rose .result in
     let d : Raised join none ts us (c .in-Work .target) (c .given-mark-mark .result) q =
-        record { inside = omega (arith, v .target, c .loop-i .kept .marks); after = c .raise-rose .ensures .after; rises = c .raise-rose .ensures .rose; stays = c .raise-rose .ensures .stayed } in
-    let d′ = subst (λ y. Raised join none ts us (c .in-Work .target) y q) (c .given-mark-mark .ensures) d in
-    (omega arith, omega arith, v .rest,
+    record { inside = omega (arith, v .target, c .loop-i .kept .marks); after = c .raise-rose .ensures .after; rises = c .raise-rose .ensures .rose; stays = c .raise-rose .ensures .stayed } in
+    let d′ = subst (λ y. Raised join none ts us (c .in-Work .target) y q) (c .given-mark-mark .ensures) d in (
+      omega arith,
+      omega arith,
+      v .rest,
       λ vs r n. or-more (λ q. Passed join none (g .M·Mark .rank) (c .args .lines .now) (c .args .from) (c .args .to) w (c .args .marks .now) vs q) (c .loop-i .rose) q r
-        (c .loop-i .inv .3 vs _ (pass-work (laws g) (c .args .lines .now) w (c .loop-i .i) (c .args .to) (omega arith) ts us vs _ _ _ _ _ _ (c .in-Work .is) d′ n)))
+          (c .loop-i .inv .3 vs _ (pass-work (laws g) (c .args .lines .now) w (c .loop-i .i) (c .args .to) (omega arith) ts us vs _ _ _ _ _ _ (c .in-Work .is) d′ n)),
+    )
 
 -- literal lines
 
@@ -61,10 +64,13 @@ loop-i-again-in-Literal g t c =
     let w = c .args .around in
     let q = c .raise-rose-in-Literal .result in
     let d : Raised join none ts us (c .in-Literal .target) w q =
-        record { inside = omega (arith, v .target, c .loop-i .kept .marks); after = c .raise-rose-in-Literal .ensures .after; rises = c .raise-rose-in-Literal .ensures .rose; stays = c .raise-rose-in-Literal .ensures .stayed } in
-    (omega arith, omega arith, v .rest,
+    record { inside = omega (arith, v .target, c .loop-i .kept .marks); after = c .raise-rose-in-Literal .ensures .after; rises = c .raise-rose-in-Literal .ensures .rose; stays = c .raise-rose-in-Literal .ensures .stayed } in (
+      omega arith,
+      omega arith,
+      v .rest,
       λ vs r n. or-more (λ q. Passed join none (g .M·Mark .rank) (c .args .lines .now) (c .args .from) (c .args .to) w (c .args .marks .now) vs q) (c .loop-i .rose) q r
-        (c .loop-i .inv .3 vs _ (pass-literal (laws g) (c .args .lines .now) w (c .loop-i .i) (c .args .to) (omega arith) ts us vs _ _ _ _ (c .in-Literal .is) d n)))
+          (c .loop-i .inv .3 vs _ (pass-literal (laws g) (c .args .lines .now) w (c .loop-i .i) (c .args .to) (omega arith) ts us vs _ _ _ _ (c .in-Literal .is) d n)),
+    )
 
 -- an if
 
@@ -87,10 +93,16 @@ index-lines-partner g t c =
 pub spread-block-rose-requires : need.spread-block-rose-requires
 spread-block-rose-requires g t c κs =
     let v = reads-if _ _ _ _ (omega arith) (c .loop-i .inv .2) _ _ _ (c .in-If .is) (c .end-of-end .ensures) in
-    λ lives.
-      (omega (arith, c .measured, v .le-first, v .le-second, v .le-rest), (lives,
-        (subst (λ n. Reads (c .args .lines .now) n (c .loop-i .i + 1) (c .in-If .partner)) (sym (c .loop-i .kept .marks)) (v .first),
-          (v .le-first, omega (arith, v .le-second, v .le-rest)))))
+    λ lives. (
+      omega (arith, c .measured, v .le-first, v .le-second, v .le-rest),
+      (
+        lives,
+        (
+          subst (λ n. Reads (c .args .lines .now) n (c .loop-i .i + 1) (c .in-If .partner)) (sym (c .loop-i .kept .marks)) (v .first),
+          (v .le-first, omega (arith, v .le-second, v .le-rest)),
+        ),
+      ),
+    )
 
 pub add-partner : need.add-partner
 add-partner g t c =
@@ -103,10 +115,16 @@ spread-block-rose-requires-in-If g t c κs =
     let v = reads-if _ _ _ _ (omega arith) (c .loop-i .inv .2) _ _ _ (c .in-If .is) (c .end-of-end .ensures) in
     let grown = c .spread-block-rose .ensures .moved .long in
     let long : length (c .spread-block-rose .last .marks) ≡ length (c .args .marks .now) = cc in
-    λ lives.
-      (omega (arith, c .measured, v .le-first, v .le-second, v .le-rest), (lives,
-        (subst (λ n. Reads (c .args .lines .now) n (c .in-If .partner + 1) (c .end-of-end .result)) (sym long) (v .second),
-          (v .le-second, omega (arith, v .le-rest)))))
+    λ lives. (
+      omega (arith, c .measured, v .le-first, v .le-second, v .le-rest),
+      (
+        lives,
+        (
+          subst (λ n. Reads (c .args .lines .now) n (c .in-If .partner + 1) (c .end-of-end .result)) (sym long) (v .second),
+          (v .le-second, omega (arith, v .le-rest)),
+        ),
+      ),
+    )
 
 pub add-i-in-If-2 : need.add-i-in-If-2
 add-i-in-If-2 g t c =
@@ -136,12 +154,15 @@ loop-i-again-in-If g t c =
     let r₂ = c .spread-block-rose-in-If .result in
     let inside = c .around-blocks-inside .ensures in
     let d₁ = subst (λ y. Passed join none (g .M·Mark .rank) xs (i + 1) k y ts us r₁) inside (c .spread-block-rose .ensures) in
-    let d₂ = subst (λ y. Passed join none (g .M·Mark .rank) xs (k + 1) z y us us′ r₂) inside (c .spread-block-rose-in-If .ensures) in
-    (omega (arith, v .le-first, v .le-second), v .le-rest, v .rest,
+    let d₂ = subst (λ y. Passed join none (g .M·Mark .rank) xs (k + 1) z y us us′ r₂) inside (c .spread-block-rose-in-If .ensures) in (
+      omega (arith, v .le-first, v .le-second),
+      v .le-rest,
+      v .rest,
       λ vs r n.
-        let P = λ (q : Bool). Passed join none (g .M·Mark .rank) xs (c .args .from) (c .args .to) w (c .args .marks .now) vs q in
-        or-more P (c .loop-i .rose || r₁) r₂ r (or-more P (c .loop-i .rose) r₁ (r₂ || r)
-          (c .loop-i .inv .3 vs _ (pass-if (laws g) xs w i (c .args .to) (omega arith) ts us us′ vs _ _ z r₁ r₂ r (c .in-If .is) (c .end-of-end .ensures) d₁ d₂ n))))
+          let P = λ (q : Bool). Passed join none (g .M·Mark .rank) xs (c .args .from) (c .args .to) w (c .args .marks .now) vs q in
+          or-more P (c .loop-i .rose || r₁) r₂ r (or-more P (c .loop-i .rose) r₁ (r₂ || r)
+          (c .loop-i .inv .3 vs _ (pass-if (laws g) xs w i (c .args .to) (omega arith) ts us us′ vs _ _ z r₁ r₂ r (c .in-If .is) (c .end-of-end .ensures) d₁ d₂ n))),
+    )
 
 -- a loop
 
@@ -153,10 +174,16 @@ around-blocks-inside-requires-in-Loop g t c κs =
 pub spread-block-rose-requires-in-Loop : need.spread-block-rose-requires-in-Loop
 spread-block-rose-requires-in-Loop g t c κs =
     let v = reads-loop _ _ _ _ (omega arith) (c .loop-i .inv .2) _ _ _ (c .in-Loop .is) in
-    λ lives.
-      (omega (arith, c .measured, v .le-first, v .le-rest), (lives,
-        (subst (λ n. Reads (c .args .lines .now) n (c .loop-i .i + 1) (c .in-Loop .partner)) (sym (c .loop-i .kept .marks)) (v .first),
-          (v .le-first, omega (arith, v .le-rest)))))
+    λ lives. (
+      omega (arith, c .measured, v .le-first, v .le-rest),
+      (
+        lives,
+        (
+          subst (λ n. Reads (c .args .lines .now) n (c .loop-i .i + 1) (c .in-Loop .partner)) (sym (c .loop-i .kept .marks)) (v .first),
+          (v .le-first, omega (arith, v .le-rest)),
+        ),
+      ),
+    )
 
 pub add-i-in-Loop-2 : need.add-i-in-Loop-2
 add-i-in-Loop-2 g t c =
@@ -182,10 +209,13 @@ loop-i-again g t c =
     let w = c .args .around in
     let r₁ = c .spread-block-rose-in-Loop .result in
     let inside = c .around-blocks-inside-in-Loop .ensures in
-    let d = subst (λ y. Passed join none (g .M·Mark .rank) xs (i + 1) z y ts us r₁) inside (c .spread-block-rose-in-Loop .ensures) in
-    (omega (arith, v .le-first), v .le-rest, v .rest,
+    let d = subst (λ y. Passed join none (g .M·Mark .rank) xs (i + 1) z y ts us r₁) inside (c .spread-block-rose-in-Loop .ensures) in (
+      omega (arith, v .le-first),
+      v .le-rest,
+      v .rest,
       λ vs r n. or-more (λ q. Passed join none (g .M·Mark .rank) xs (c .args .from) (c .args .to) w (c .args .marks .now) vs q) (c .loop-i .rose) r₁ r
-        (c .loop-i .inv .3 vs _ (pass-loop (laws g) xs w i (c .args .to) (omega arith) ts us vs _ _ z r₁ r (c .in-Loop .is) d n)))
+          (c .loop-i .inv .3 vs _ (pass-loop (laws g) xs w i (c .args .to) (omega arith) ts us vs _ _ z r₁ r (c .in-Loop .is) d n)),
+    )
 
 -- no other line begins a block's rest
 

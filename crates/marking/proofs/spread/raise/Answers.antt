@@ -9,7 +9,8 @@ pub returns-then-at-least : need.returns-then-at-least
 returns-then-at-least g c =
     let ts = c .args .marks .now in
     let enough = subst (λ y. AtLeast (g .M·Mark .joined) y (c .args .mark)) (c .mark-of-old .ensures) (c .at-least .ensures .yes (c .if-at-least .taken)) in
-    record
-      { after = sym (ap (set ts (c .args .cell)) enough ∙ set-getD ts (c .args .cell) (g .M·Mark .unmarked))
-      ; rose = λ e. absurd (false≢true e)
-      ; stayed = λ _. enough }
+    record {
+      after = sym (ap (set ts (c .args .cell)) enough ∙ set-getD ts (c .args .cell) (g .M·Mark .unmarked));
+      rose = λ e. absurd (false≢true e);
+      stayed = λ _. enough;
+    }

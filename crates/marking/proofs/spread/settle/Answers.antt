@@ -38,18 +38,20 @@ loop-passes-again g c =
     let d = c .spread-block .ensures in
     let none = g .M·Mark .unmarked in
     let ts = c .loop-passes .marks in
-    let us = c .spread-block .last .marks in
-    (owns-more (g .M·Mark .joined) (g .M·Mark .owned) (laws g) (marking none ts) (marking none us) (d .moved .grown) (c .args .marked .now) (c .loop-passes .inv .0),
+    let us = c .spread-block .last .marks in (
+      owns-more (g .M·Mark .joined) (g .M·Mark .owned) (laws g) (marking none ts) (marking none us) (d .moved .grown) (c .args .marked .now) (c .loop-passes .inv .0),
       pass-under (laws g) (g .M·Mark .owned) (c .args .marked .now) (c .args .lines .now) (c .args .count) ts us _ _ (c .none .ensures) d (c .loop-passes .inv .1),
-      omega (arith, d .moved .more (c .loop-passes-test .taken), c .loop-passes .inv .2))
+      omega (arith, d .moved .more (c .loop-passes-test .taken), c .loop-passes .inv .2),
+    )
 
 pub returns : need.returns
 returns g c =
     let ts = c .loop-passes .marks in
     let most = total-most (laws g) ts in
     let long : length ts ≡ length (c .args .marks .now) = c .loop-passes .kept .marks ∙ c .start .kept .marks in
-    record
-      { least =
+    record {
+      least =
           least-end (laws g) (g .M·Mark .owned) (c .args .marked .now) (c .args .lines .now) (c .args .count) ts (c .spread-block .last .marks) _ _ (c .none .ensures)
-            (c .spread-block .ensures) (c .loop-passes .inv .1) (c .loop-passes-test .left) (c .loop-passes .inv .0)
-      ; passes = subst (λ n. c .loop-passes .passes ≤ g .M·Mark .height * n + 1) long (omega (arith, most, c .loop-passes .inv .2)) }
+          (c .spread-block .ensures) (c .loop-passes .inv .1) (c .loop-passes-test .left) (c .loop-passes .inv .0);
+      passes = subst (λ n. c .loop-passes .passes ≤ g .M·Mark .height * n + 1) long (omega (arith, most, c .loop-passes .inv .2));
+    }

@@ -25,7 +25,7 @@ loop-cell-holds g c =
     let none = g .M·Mark .unmarked in
     let ts = c .clear .last .marks in
     let empty : (x : ℕ) → marking none ts x ≡ none =
-        λ x. elim (cases-lt x (length ts)) [ inl h ↦ c .clear .ensures x h | inr h ↦ getD-past ts x none h ] in
+    λ x. elim (cases-lt x (length ts)) [ inl h ↦ c .clear .ensures x h | inr h ↦ getD-past ts x none h ] in
     (below-none _, λ m o x. subst (AtLeast (g .M·Mark .joined) (m x)) (sym (empty x)) (above-none (laws g) (m x)))
 
 pub raise-requires : need.raise-requires
@@ -44,14 +44,16 @@ loop-cell-again g c =
     let us = c .raise .last .marks in
     let low = rising-below _ 0 cs (c .pre) i (omega arith) in
     let d : Raised join none ts us (getD cs i 0) (c .own .result) (c .raise .result) =
-        record { inside = omega (arith, low); after = c .raise .ensures .after; rises = c .raise .ensures .rose; stays = c .raise .ensures .stayed } in
+    record { inside = omega (arith, low); after = c .raise .ensures .after; rises = c .raise .ensures .rose; stays = c .raise .ensures .stayed } in
     let grown = raise-moved (laws g) ts us _ _ _ d .grown in
-    let has = subst (λ y. AtLeast join (marking none y (getD cs i 0)) (c .own .result)) (sym (d .after)) (raised-has (laws g) ts (getD cs i 0) (c .own .result) (d .inside)) in
-    (below-more _ _ (λ k h. above-trans (laws g) _ _ _ (grown (getD cs k 0)) (c .loop-cell .inv .0 k h)) (subst (AtLeast join _) (c .own .ensures) has),
-      λ m o. raise-below (laws g) ts us _ _ _ d m (subst (AtLeast join _) (sym (c .own .ensures)) (owns-at join own m cs o i (omega arith))) (c .loop-cell .inv .1 m o))
+    let has = subst (λ y. AtLeast join (marking none y (getD cs i 0)) (c .own .result)) (sym (d .after)) (raised-has (laws g) ts (getD cs i 0) (c .own .result) (d .inside)) in (
+      below-more _ _ (λ k h. above-trans (laws g) _ _ _ (grown (getD cs k 0)) (c .loop-cell .inv .0 k h)) (subst (AtLeast join _) (c .own .ensures) has),
+      λ m o. raise-below (laws g) ts us _ _ _ d m (subst (AtLeast join _) (sym (c .own .ensures)) (owns-at join own m cs o i (omega arith))) (c .loop-cell .inv .1 m o),
+    )
 
 pub returns : need.returns
 returns g c =
-    record
-      { owns = owns-all (g .M·Mark .joined) (g .M·Mark .owned) _ (c .args .marked .now) (λ k h. c .loop-cell .inv .0 k (omega arith))
-      ; below = c .loop-cell .inv .1 }
+    record {
+      owns = owns-all (g .M·Mark .joined) (g .M·Mark .owned) _ (c .args .marked .now) (λ k h. c .loop-cell .inv .0 k (omega arith));
+      below = c .loop-cell .inv .1;
+    }
