@@ -1,0 +1,4 @@
+pub mod Rules
+pub mod Members
+pub mod Sets
+pub mod Spread
