@@ -1,0 +1,5 @@
+pub mod Names
+pub mod Cover
+pub mod Own
+pub mod Listed
+pub mod Holds

@@ -1,0 +1,124 @@
+// The conversion of a line table into steps.
+ghost use mathlib.Core.Path.{_≡_};
+ghost use mathlib.Core.List.{_++_};
+ghost use Prim.Native.Nat.{ℕ, _+_, _-_, _*_, _<_, _≤_};
+ghost use lib.ListN.{length, drop};
+ghost use Rattle.sheet.specs.Code.{Code};
+ghost use Rattle.sheet.specs.Spans.{lineAt, Spans, endOf, pastOf};
+ghost use Rattle.onepath.specs.Cover.{coveredIn};
+ghost use Rattle.onepath.specs.Listed.{stepsOf};
+ghost use Rattle.onepath.specs.Holds.{Converted};
+use crate::constructs::{if_head, if_middle, is_cell_covered, is_loop_covered, loop_back, loop_head, loop_test, Around};
+use crate::steps::Step;
+use sheet::Line;
+
+// The line of the `end` that an `else` names.
+fn end_of(line: Line) -> usize
+    ensures { λ r. ⌜ r ≡ endOf line ⌝ }
+{
+    match line {
+        Line::Else { partner } => partner,
+        Line::Work { .. } => 0,
+        Line::Literal { .. } => 0,
+        Line::If { .. } => 0,
+        Line::End { .. } => 0,
+        Line::Loop { .. } => 0,
+    }
+}
+
+// Converts the lines from `from` up to `to`, a block, into the steps from `at` on. Returns the place after them.
+fn convert_block(lines: &[Line], from: usize, to: usize, covered: &[bool], around: Around, steps: &mut [Step], at: usize) -> usize
+    requires reads { ⌜ ((c : Code) × Spans (now lines) from to c) ⌝ }
+    requires ordered { ⌜ from ≤ to ⌝ }
+    requires inside { ⌜ to ≤ length (now lines) ⌝ }
+    requires room { ⌜ at + 2 * (to - from) ≤ length (now steps) ⌝ }
+    requires shallow { ⌜ around .level ≤ from ⌝ ∗ ⌜ around .loops ≤ from ⌝ }
+    ensures { λ r. ⌜ Converted (coveredIn (now (covered .entry))) (now (lines .entry)) (around .level) (around .loops) from to (now (steps .entry)) (now (steps .exit)) at r ⌝ }
+{
+    let mut i = from;
+    let mut n = at;
+    while i < to {
+        let line = lines[i];
+        match line {
+            Line::Work { target, op, a, b } => {
+                steps[n] = Step::Work { level: around.level, target, op, a, b };
+                n += 1;
+                i += 1;
+            }
+            Line::Literal { target, number } => {
+                steps[n] = Step::Literal { level: around.level, target, number };
+                n += 1;
+                i += 1;
+            }
+            Line::If { partner, .. } => {
+                let next_line = end_of(lines[partner]) + 1;
+                n = convert_construct(lines, i, next_line, covered, around, steps, n);
+                i = next_line;
+            }
+            Line::Loop { partner, .. } => {
+                let next_line = partner + 1;
+                n = convert_construct(lines, i, next_line, covered, around, steps, n);
+                i = next_line;
+            }
+            Line::Else { .. } => unreachable(),
+            Line::End { .. } => unreachable(),
+        }
+    }
+    n
+}
+
+// Converts the construct that the line `from` opens and whose last line is before `to`. Returns the place after its
+// steps. How far a block's steps go is known once it is converted, so the construct's own steps are written last.
+fn convert_construct(lines: &[Line], from: usize, to: usize, covered: &[bool], around: Around, steps: &mut [Step], at: usize) -> usize
+    requires reads { ⌜ ((c : Code) × Spans (now lines) from to c) ⌝ }
+    requires one { ⌜ to ≡ pastOf (now lines) (lineAt (now lines) from) ⌝ }
+    requires ordered { ⌜ from < to ⌝ }
+    requires inside { ⌜ to ≤ length (now lines) ⌝ }
+    requires room { ⌜ at + 2 * (to - from) ≤ length (now steps) ⌝ }
+    requires shallow { ⌜ around .level ≤ from ⌝ ∗ ⌜ around .loops ≤ from ⌝ }
+    ensures { λ r. ⌜ Converted (coveredIn (now (covered .entry))) (now (lines .entry)) (around .level) (around .loops) from to (now (steps .entry)) (now (steps .exit)) at r ⌝ }
+{
+    let opener = lines[from];
+    match opener {
+        Line::If { cell, partner } => {
+            let is_covered = is_cell_covered(covered, cell);
+            let inner = around.in_if(is_covered);
+            let mid = convert_block(lines, from + 1, partner, covered, inner, steps, at + 1);
+            let next = convert_block(lines, partner + 1, to - 1, covered, inner, steps, mid + 1);
+            steps[at] = if_head(is_covered, inner.level, cell, mid + 1);
+            steps[mid] = if_middle(is_covered, inner.level, next);
+            next
+        }
+        Line::Loop { cell, bound, .. } => {
+            let is_covered = is_loop_covered(covered, around.level, cell);
+            let inner = around.in_loop(is_covered);
+            let mid = convert_block(lines, from + 1, to - 1, covered, inner, steps, at + 2);
+            steps[at] = loop_head(is_covered, inner.level, around.loops);
+            steps[at + 1] = loop_test(is_covered, inner.level, around.loops, cell, bound, mid + 1, from);
+            steps[mid] = loop_back(is_covered, inner.level, bound, at + 1);
+            if is_covered {
+                steps[mid + 1] = Step::Close { level: inner.level, cell, line: from };
+                mid + 2
+            } else {
+                mid + 1
+            }
+        }
+        Line::Work { .. } => unreachable(),
+        Line::Literal { .. } => unreachable(),
+        Line::Else { .. } => unreachable(),
+        Line::End { .. } => unreachable(),
+    }
+}
+
+// Converts the first `count` lines of the table, a whole sheet's. Returns how many steps there are, at most two a line.
+pub(crate) fn convert_lines(lines: &[Line], count: usize, covered: &[bool], steps: &mut [Step]) -> usize
+    requires reads { ⌜ ((c : Code) × Spans (now lines) 0 count c) ⌝ }
+    requires inside { ⌜ count ≤ length (now lines) ⌝ }
+    requires few { ⌜ count ≤ 512 ⌝ }
+    requires room { ⌜ 2 * count ≤ length (now steps) ⌝ }
+    ensures listed { λ r. ⌜ ((c : Code) → Spans (now (lines .entry)) 0 count c → now (steps .exit) ≡ stepsOf (coveredIn (now (covered .entry))) 0 0 0 0 c ++ drop r (now (steps .entry))) ⌝ }
+    ensures number { λ r. ⌜ ((c : Code) → Spans (now (lines .entry)) 0 count c → r ≡ length (stepsOf (coveredIn (now (covered .entry))) 0 0 0 0 c)) ⌝ }
+    ensures most { λ r. ⌜ r ≤ 2 * count ⌝ }
+{
+    convert_block(lines, 0, count, covered, Around { level: 0, loops: 0 }, steps, 0)
+}
