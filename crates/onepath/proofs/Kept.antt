@@ -5,6 +5,7 @@ use mathlib.Core.List.{List}
 use Prim.Native.Nat.{ℕ, _+_, _<_, _≤_}
 use native.Mathlib.Omega.{arith}
 use Rattle.sheet.specs.Code.{Code, stop, work, literal, choose, repeat, sizeOf}
+use Rattle.onepath.specs.Cover.{loopCovered, levelIn, loopsIn}
 use Rattle.onepath.specs.Holds.{stepAt, Holds, LoopEnd}
 use Rattle.onepath.specs.declared.steps.Step.{Step}
 
@@ -26,12 +27,12 @@ module _ (cov : ℕ → Bool) where
   holds-le ts k d l i j (work t o a b r) h = let f = holds-le ts k d (l + 1) (i + 1) j r (h .1) in omega arith
   holds-le ts k d l i j (literal t n r) h = let f = holds-le ts k d (l + 1) (i + 1) j r (h .1) in omega arith
   holds-le ts k d l i j (choose x p q r) h =
-      let f₁ = holds-le ts _ d (l + 1) (i + 1) (h .0) p (h .3) in
-      let f₂ = holds-le ts _ d _ (h .0 + 1) (h .1) q (h .5) in
+      let f₁ = holds-le ts (levelIn (cov x) k) d (l + 1) (i + 1) (h .0) p (h .3) in
+      let f₂ = holds-le ts (levelIn (cov x) k) d _ (h .0 + 1) (h .1) q (h .5) in
       let f₃ = holds-le ts k d _ (h .1) j r (h .6) in
       omega (arith, f₁, f₂, f₃)
   holds-le ts k d l i j (repeat x n p r) h =
-      let f₁ = holds-le ts _ _ (l + 1) (i + 2) (h .0) p (h .4) in
+      let f₁ = holds-le ts (levelIn (loopCovered cov k x) k) (loopsIn (loopCovered cov k x) d) (l + 1) (i + 2) (h .0) p (h .4) in
       let f₂ = ends-le _ ts _ x l _ _ (h .6) in
       let f₃ = holds-le ts k d _ (h .1) j r (h .7) in
       omega (arith, f₁, f₂, f₃)
@@ -47,22 +48,22 @@ module _ (cov : ℕ → Bool) where
   holds-kept ts us k d l i j (choose x p q r) s h =
       let m = h .0 in
       let e = h .1 in
-      let f₁ = holds-le ts _ d (l + 1) (i + 1) m p (h .3) in
-      let f₂ = holds-le ts _ d _ (m + 1) e q (h .5) in
+      let f₁ = holds-le ts (levelIn (cov x) k) d (l + 1) (i + 1) m p (h .3) in
+      let f₂ = holds-le ts (levelIn (cov x) k) d _ (m + 1) e q (h .5) in
       let f₃ = holds-le ts k d _ e j r (h .6) in
       (m, e, s i (omega arith) (omega arith) ∙ h .2,
-        holds-kept ts us _ d (l + 1) (i + 1) m p (λ y u v. s y (omega arith) (omega arith)) (h .3),
+        holds-kept ts us (levelIn (cov x) k) d (l + 1) (i + 1) m p (λ y u v. s y (omega arith) (omega arith)) (h .3),
         s m (omega arith) (omega arith) ∙ h .4,
-        holds-kept ts us _ d _ (m + 1) e q (λ y u v. s y (omega arith) (omega arith)) (h .5),
+        holds-kept ts us (levelIn (cov x) k) d _ (m + 1) e q (λ y u v. s y (omega arith) (omega arith)) (h .5),
         holds-kept ts us k d _ e j r (λ y u v. s y (omega arith) (omega arith)) (h .6))
   holds-kept ts us k d l i j (repeat x n p r) s h =
       let m = h .0 in
       let e = h .1 in
-      let f₁ = holds-le ts _ _ (l + 1) (i + 2) m p (h .4) in
+      let f₁ = holds-le ts (levelIn (loopCovered cov k x) k) (loopsIn (loopCovered cov k x) d) (l + 1) (i + 2) m p (h .4) in
       let f₂ = ends-le _ ts _ x l _ _ (h .6) in
       let f₃ = holds-le ts k d _ e j r (h .7) in
       (m, e, s i (omega arith) (omega arith) ∙ h .2, s (i + 1) (omega arith) (omega arith) ∙ h .3,
-        holds-kept ts us _ _ (l + 1) (i + 2) m p (λ y u v. s y (omega arith) (omega arith)) (h .4),
+        holds-kept ts us (levelIn (loopCovered cov k x) k) (loopsIn (loopCovered cov k x) d) (l + 1) (i + 2) m p (λ y u v. s y (omega arith) (omega arith)) (h .4),
         s m (omega arith) (omega arith) ∙ h .5,
         ends-kept _ ts us _ x l (m + 1) e (λ y u v. s y (omega arith) (omega arith)) (h .6),
         holds-kept ts us k d _ e j r (λ y u v. s y (omega arith) (omega arith)) (h .7))

@@ -39,13 +39,13 @@ module _ (xs : List Line) (i j : ℕ) (more : i ≡ j → ⊥) where
       let v = at-literal xs i j more t n w c h in
       record { one = literal t n stop; rest = v .rest; is = v .is; spans-one = (w, refl); spans-rest = v .spans }
 
-  pub part-if : (x e : ℕ) → lineAt xs i ≡ If x e → (c : Code) → Spans xs i j c → Parts xs i (endOf (lineAt xs e) + 1) j c
-  part-if x e w c h =
+  pub part-if : (x e z : ℕ) → lineAt xs i ≡ If x e → z ≡ endOf (lineAt xs e) → (c : Code) → Spans xs i j c → Parts xs i (z + 1) j c
+  part-if x e z w ez c h =
       let v = at-if xs i j more x e w c h in
-      let z : v .z + 1 ≡ endOf (lineAt xs e) + 1 = sym (ap (λ l. endOf l + 1) (v .mid)) in
+      let zz : v .z + 1 ≡ z + 1 = sym (ap (λ y. y + 1) (ez ∙ ap endOf (v .mid))) in
       record { one = choose x (v .first) (v .second) stop; rest = v .rest; is = v .is;
-        spans-one = (e, v .z, w, v .spans-first, v .mid, v .spans-second, v .end, z);
-        spans-rest = subst (λ y. Spans xs y j (v .rest)) z (v .spans-rest) }
+        spans-one = (e, v .z, w, v .spans-first, v .mid, v .spans-second, v .end, zz);
+        spans-rest = subst (λ y. Spans xs y j (v .rest)) zz (v .spans-rest) }
 
   pub part-loop : (x n e : ℕ) → lineAt xs i ≡ Loop x n e → (c : Code) → Spans xs i j c → Parts xs i (e + 1) j c
   part-loop x n e w c h =
