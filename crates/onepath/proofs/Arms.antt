@@ -31,8 +31,14 @@ module _ (cov : ℕ → Bool) (xs : List Line) (k d : ℕ) where
   -- the empty block
   pub none : (i j : ℕ) (ts : List Step) (at : ℕ) → i ≡ j → Converted cov xs k d i j ts ts at at
   none i j ts at e =
-      record { below = λ x l. refl; above = λ x l. refl; long = refl; least = omega arith; most = omega arith;
-        holds = λ c h. subst (λ y. Holds cov ts k d i at at y) (sym (spans-none xs i j c e h)) refl }
+      record {
+        below = λ x l. refl;
+        above = λ x l. refl;
+        long = refl;
+        least = omega arith;
+        most = omega arith;
+        holds = λ c h. subst (λ y. Holds cov ts k d i at at y) (sym (spans-none xs i j c e h)) refl;
+      }
 
   -- the lines up to z, and then those up to j
   pub joined : (i z j : ℕ) (ts us vs : List Step) (at m r : ℕ) → i ≤ z → z ≤ j →
@@ -43,39 +49,50 @@ module _ (cov : ℕ → Bool) (xs : List Line) (k d : ℕ) where
       let a₂ = d₂ .least in
       let b₁ = d₁ .most in
       let b₂ = d₂ .most in
-      record { below = λ y l. d₂ .below y (omega arith) ∙ d₁ .below y l; above = λ y l. d₂ .above y l ∙ d₁ .above y (omega arith);
-        long = d₂ .long ∙ d₁ .long; least = omega arith; most = omega arith;
+      record {
+        below = λ y l. d₂ .below y (omega arith) ∙ d₁ .below y l;
+        above = λ y l. d₂ .above y l ∙ d₁ .above y (omega arith);
+        long = d₂ .long ∙ d₁ .long;
+        least = omega arith;
+        most = omega arith;
         holds = λ c h.
-          let v = parts c h in
-          let h₁ = holds-kept cov us vs k d i at m (v .one) (λ y f g. d₂ .below y g) (d₁ .holds (v .one) (v .spans-one)) in
-          let h₂ = subst (λ y. Holds cov vs k d y m r (v .rest)) (spans-size xs i z (v .one) (v .spans-one)) (d₂ .holds (v .rest) (v .spans-rest)) in
-          subst (λ y. Holds cov vs k d i at r y) (sym (v .is)) (holds-follow cov vs k d i at m r (v .one) (v .rest) h₁ h₂) }
+            let v = parts c h in
+            let h₁ = holds-kept cov us vs k d i at m (v .one) (λ y f g. d₂ .below y g) (d₁ .holds (v .one) (v .spans-one)) in
+            let h₂ = subst (λ y. Holds cov vs k d y m r (v .rest)) (spans-size xs i z (v .one) (v .spans-one)) (d₂ .holds (v .rest) (v .spans-rest)) in
+            subst (λ y. Holds cov vs k d i at r y) (sym (v .is)) (holds-follow cov vs k d i at m r (v .one) (v .rest) h₁ h₂);
+      }
 
   -- a step s for the line at i
   plain : (i : ℕ) (ts : List Step) (at : ℕ) (s : Step) → at < length ts →
       ((c : Code) → Spans xs i (i + 1) c → stepAt (set ts at s) at ≡ s → Holds cov (set ts at s) k d i at (at + 1) c) →
       Converted cov xs k d i (i + 1) ts (set ts at s) at (at + 1)
   plain i ts at s l f =
-      record { below = λ x w. other ts at s x (omega arith); above = λ x w. other ts at s x (omega arith); long = length-set ts at s;
-        least = omega arith; most = omega arith; holds = λ c h. f c h (wrote ts at s l) }
+      record {
+        below = λ x w. other ts at s x (omega arith);
+        above = λ x w. other ts at s x (omega arith);
+        long = length-set ts at s;
+        least = omega arith;
+        most = omega arith;
+        holds = λ c h. f c h (wrote ts at s l);
+      }
 
   pub one-work : (i : ℕ) (ts : List Step) (at t o a b : ℕ) → at < length ts → lineAt xs i ≡ Work t o a b →
       Converted cov xs k d i (i + 1) ts (set ts at (Act k t o a b)) at (at + 1)
   one-work i ts at t o a b l w =
       plain i ts at (Act k t o a b) l
-        (λ c h s.
-          let v = at-work xs i (i + 1) (omega arith) t o a b w c h in
-          let e = v .is ∙ ap (λ y. work t o a b y) (spans-none xs (i + 1) (i + 1) (v .rest) refl (v .spans)) in
-          subst (λ y. Holds cov (set ts at (Act k t o a b)) k d i at (at + 1) y) (sym e) (s, refl))
+      (λ c h s.
+      let v = at-work xs i (i + 1) (omega arith) t o a b w c h in
+      let e = v .is ∙ ap (λ y. work t o a b y) (spans-none xs (i + 1) (i + 1) (v .rest) refl (v .spans)) in
+      subst (λ y. Holds cov (set ts at (Act k t o a b)) k d i at (at + 1) y) (sym e) (s, refl))
 
   pub one-literal : (i : ℕ) (ts : List Step) (at t n : ℕ) → at < length ts → lineAt xs i ≡ Literal t n →
       Converted cov xs k d i (i + 1) ts (set ts at (Put k t n)) at (at + 1)
   one-literal i ts at t n l w =
       plain i ts at (Put k t n) l
-        (λ c h s.
-          let v = at-literal xs i (i + 1) (omega arith) t n w c h in
-          let e = v .is ∙ ap (λ y. literal t n y) (spans-none xs (i + 1) (i + 1) (v .rest) refl (v .spans)) in
-          subst (λ y. Holds cov (set ts at (Put k t n)) k d i at (at + 1) y) (sym e) (s, refl))
+      (λ c h s.
+      let v = at-literal xs i (i + 1) (omega arith) t n w c h in
+      let e = v .is ∙ ap (λ y. literal t n y) (spans-none xs (i + 1) (i + 1) (v .rest) refl (v .spans)) in
+      subst (λ y. Holds cov (set ts at (Put k t n)) k d i at (at + 1) y) (sym e) (s, refl))
 
 -- a block's conversion at the level and the number of loops that the rules give
 within : (cov : ℕ → Bool) (xs : List Line) (k k′ d d′ i j : ℕ) (ts us : List Step) (at r : ℕ) → k ≡ k′ → d ≡ d′ →
@@ -104,33 +121,39 @@ whole-if cov xs k d i j ts us vs at m r x e b own loops s₁ s₂ lj w ej room l
     let a₂ = d₂ .least in
     let b₁ = d₁ .most in
     let b₂ = d₂ .most in
-    record { below = λ y l. keep y (omega arith) (omega arith) ∙ d₂ .below y (omega arith) ∙ d₁ .below y (omega arith);
+    record {
+      below = λ y l. keep y (omega arith) (omega arith) ∙ d₂ .below y (omega arith) ∙ d₁ .below y (omega arith);
       above = λ y l. keep y (omega arith) (omega arith) ∙ d₂ .above y l ∙ d₁ .above y (omega arith);
-      long = length-set ws m s₂ ∙ lw; least = omega arith; most = omega arith;
+      long = length-set ws m s₂ ∙ lw;
+      least = omega arith;
+      most = omega arith;
       holds = λ c h.
-        let v = at-if xs i j (omega arith) x e w c h in
-        let zz : v .z + 1 ≡ j = sym (ej ∙ ap (pastOf xs) w ∙ ap (λ l. endOf l + 1) (v .mid)) in
-        let zj : v .z ≡ j - 1 = omega (arith, zz) in
-        let h₁ = d₁ .holds (v .first) (v .spans-first) in
-        let h₂ = d₂ .holds (v .second) (subst (λ y. Spans xs (e + 1) y (v .second)) zj (v .spans-second)) in
-        let h₂′ = subst (λ y. Holds cov vs o d (y + 1) (m + 1) r (v .second)) (spans-size xs (i + 1) e (v .first) (v .spans-first)) h₂ in
-        let last : v .rest ≡ stop = spans-none xs (v .z + 1) j (v .rest) zz (v .spans-rest) in
-        let head : s₁ ≡ ifHead (cov x) o x (m + 1) = e₁ ∙ ap (λ y. ifHead y own x (m + 1)) eb ∙ ap (λ y. ifHead (cov x) y x (m + 1)) eo′ in
-        let middle : s₂ ≡ ifMiddle (cov x) o r = e₂ ∙ ap (λ y. ifMiddle y own r) eb ∙ ap (λ y. ifMiddle (cov x) y r) eo′ in
-        subst (λ y. Holds cov zs k d i at r y) (sym (v .is ∙ ap (λ y. choose x (v .first) (v .second) y) last))
-          (m, r, other ws m s₂ at (omega arith) ∙ wrote vs at s₁ (omega (arith, lv)) ∙ head,
+          let v = at-if xs i j (omega arith) x e w c h in
+          let zz : v .z + 1 ≡ j = sym (ej ∙ ap (pastOf xs) w ∙ ap (λ l. endOf l + 1) (v .mid)) in
+          let zj : v .z ≡ j - 1 = omega (arith, zz) in
+          let h₁ = d₁ .holds (v .first) (v .spans-first) in
+          let h₂ = d₂ .holds (v .second) (subst (λ y. Spans xs (e + 1) y (v .second)) zj (v .spans-second)) in
+          let h₂′ = subst (λ y. Holds cov vs o d (y + 1) (m + 1) r (v .second)) (spans-size xs (i + 1) e (v .first) (v .spans-first)) h₂ in
+          let last : v .rest ≡ stop = spans-none xs (v .z + 1) j (v .rest) zz (v .spans-rest) in
+          let head : s₁ ≡ ifHead (cov x) o x (m + 1) = e₁ ∙ ap (λ y. ifHead y own x (m + 1)) eb ∙ ap (λ y. ifHead (cov x) y x (m + 1)) eo′ in
+          let middle : s₂ ≡ ifMiddle (cov x) o r = e₂ ∙ ap (λ y. ifMiddle y own r) eb ∙ ap (λ y. ifMiddle (cov x) y r) eo′ in
+          subst (λ y. Holds cov zs k d i at r y) (sym (v .is ∙ ap (λ y. choose x (v .first) (v .second) y) last)) (
+            m,
+            r,
+            other ws m s₂ at (omega arith) ∙ wrote vs at s₁ (omega (arith, lv)) ∙ head,
             holds-kept cov us zs o d (i + 1) (at + 1) m (v .first) (λ y f g. keep y (omega arith) (omega arith) ∙ d₂ .below y (omega arith)) h₁,
             wrote ws m s₂ (omega (arith, lw)) ∙ middle,
             holds-kept cov vs zs o d _ (m + 1) r (v .second) (λ y f g. keep y (omega arith) (omega arith)) h₂′,
-            refl) }
+            refl,
+          );
+    }
 
 -- a loop: its block is converted, and then its steps are written
 module _ (cov : ℕ → Bool) (xs : List Line) (k d i j : ℕ) (ts us : List Step) (at m x n e : ℕ) (b : Bool) (own loops : ℕ) (s₁ s₂ s₃ : Step) (lj : i < j)
-  (w : lineAt xs i ≡ Loop x n e) (ej : j ≡ pastOf xs (lineAt xs i)) (room : at + 2 * (j - i) ≤ length ts) (l₁ : i + 1 ≤ j - 1)
-  (eb : b ≡ loopCovered cov k x) (eo : own ≡ levelIn b k) (ed : loops ≡ loopsIn b d)
-  (c₁ : Converted cov xs own loops (i + 1) (j - 1) ts us (at + 2) m)
-  (e₁ : s₁ ≡ loopHead b own d) (e₂ : s₂ ≡ loopTest b own d x n (m + 1) i) (e₃ : s₃ ≡ loopBack b own n (at + 1)) where
-
+    (w : lineAt xs i ≡ Loop x n e) (ej : j ≡ pastOf xs (lineAt xs i)) (room : at + 2 * (j - i) ≤ length ts) (l₁ : i + 1 ≤ j - 1)
+    (eb : b ≡ loopCovered cov k x) (eo : own ≡ levelIn b k) (ed : loops ≡ loopsIn b d)
+    (c₁ : Converted cov xs own loops (i + 1) (j - 1) ts us (at + 2) m)
+    (e₁ : s₁ ≡ loopHead b own d) (e₂ : s₂ ≡ loopTest b own d x n (m + 1) i) (e₃ : s₃ ≡ loopBack b own n (at + 1)) where
   -- vs is the table with the three steps, and perhaps one after them
   looped : (vs : List Step) (r : ℕ) → Kept (set (set (set us at s₁) (at + 1) s₂) m s₃) vs 0 (m + 1) →
       ((y : ℕ) → r ≤ y → stepAt vs y ≡ stepAt (set (set (set us at s₁) (at + 1) s₂) m s₃) y) → length vs ≡ length us → m < r → r ≤ m + 2 →
@@ -151,23 +174,31 @@ module _ (cov : ℕ → Bool) (xs : List Line) (k d i j : ℕ) (ts us : List Ste
       let dl = d₁ .long in
       let keep : (y : ℕ) → y ≢ m → y ≢ at → y ≢ at + 1 → stepAt v₃ y ≡ stepAt us y = λ y p q u. other v₂ m s₃ y p ∙ other v₁ (at + 1) s₂ y u ∙ other us at s₁ y q in
       let jj : j ≡ e + 1 = ej ∙ ap (pastOf xs) w in
-      record { below = λ y l. kv y (omega arith) (omega arith) ∙ keep y (omega arith) (omega arith) (omega arith) ∙ d₁ .below y (omega arith);
+      record {
+        below = λ y l. kv y (omega arith) (omega arith) ∙ keep y (omega arith) (omega arith) (omega arith) ∙ d₁ .below y (omega arith);
         above = λ y l. av y l ∙ keep y (omega arith) (omega arith) (omega arith) ∙ d₁ .above y (omega arith);
-        long = lv ∙ d₁ .long; least = omega arith; most = omega arith;
+        long = lv ∙ d₁ .long;
+        least = omega arith;
+        most = omega arith;
         holds = λ c h.
-          let v = at-loop xs i j (omega arith) x n e w c h in
-          let zj : e ≡ j - 1 = omega arith in
-          let h₁ = d₁ .holds (v .first) (subst (λ y. Spans xs (i + 1) y (v .first)) zj (v .spans-first)) in
-          let last : v .rest ≡ stop = spans-none xs (e + 1) j (v .rest) (sym jj) (v .spans-rest) in
-          let head : s₁ ≡ loopHead b′ o d = e₁ ∙ ap (λ y. loopHead y own d) eb ∙ ap (λ y. loopHead b′ y d) eo′ in
-          let test : s₂ ≡ loopTest b′ o d x n (m + 1) i = e₂ ∙ ap (λ y. loopTest y own d x n (m + 1) i) eb ∙ ap (λ y. loopTest b′ y d x n (m + 1) i) eo′ in
-          let back : s₃ ≡ loopBack b′ o n (at + 1) = e₃ ∙ ap (λ y. loopBack y own n (at + 1)) eb ∙ ap (λ y. loopBack b′ y n (at + 1)) eo′ in
-          subst (λ y. Holds cov vs k d i at r y) (sym (v .is ∙ ap (λ y. repeat x n (v .first) y) last))
-            (m, r, kv at (omega arith) (omega arith) ∙ other v₂ m s₃ at (omega arith) ∙ other v₁ (at + 1) s₂ at (omega arith) ∙ wrote us at s₁ (omega arith) ∙ head,
+            let v = at-loop xs i j (omega arith) x n e w c h in
+            let zj : e ≡ j - 1 = omega arith in
+            let h₁ = d₁ .holds (v .first) (subst (λ y. Spans xs (i + 1) y (v .first)) zj (v .spans-first)) in
+            let last : v .rest ≡ stop = spans-none xs (e + 1) j (v .rest) (sym jj) (v .spans-rest) in
+            let head : s₁ ≡ loopHead b′ o d = e₁ ∙ ap (λ y. loopHead y own d) eb ∙ ap (λ y. loopHead b′ y d) eo′ in
+            let test : s₂ ≡ loopTest b′ o d x n (m + 1) i = e₂ ∙ ap (λ y. loopTest y own d x n (m + 1) i) eb ∙ ap (λ y. loopTest b′ y d x n (m + 1) i) eo′ in
+            let back : s₃ ≡ loopBack b′ o n (at + 1) = e₃ ∙ ap (λ y. loopBack y own n (at + 1)) eb ∙ ap (λ y. loopBack b′ y n (at + 1)) eo′ in
+            subst (λ y. Holds cov vs k d i at r y) (sym (v .is ∙ ap (λ y. repeat x n (v .first) y) last)) (
+              m,
+              r,
+              kv at (omega arith) (omega arith) ∙ other v₂ m s₃ at (omega arith) ∙ other v₁ (at + 1) s₂ at (omega arith) ∙ wrote us at s₁ (omega arith) ∙ head,
               kv (at + 1) (omega arith) (omega arith) ∙ other v₂ m s₃ (at + 1) (omega arith) ∙ wrote v₁ (at + 1) s₂ (omega arith) ∙ test,
               holds-kept cov us vs o d′ (i + 1) (at + 2) m (v .first) (λ y f g. kv y (omega arith) (omega arith) ∙ keep y (omega arith) (omega arith) (omega arith)) h₁,
               kv m (omega arith) (omega arith) ∙ wrote v₂ m s₃ (omega arith) ∙ back,
-              subst (λ y. LoopEnd b′ vs y x i (m + 1) r) eo′ (subst (λ y. LoopEnd y vs own x i (m + 1) r) eb en), refl) }
+              subst (λ y. LoopEnd b′ vs y x i (m + 1) r) eo′ (subst (λ y. LoopEnd y vs own x i (m + 1) r) eb en),
+              refl,
+            );
+      }
 
   three : length (set (set (set us at s₁) (at + 1) s₂) m s₃) ≡ length us
   three = length-set (set (set us at s₁) (at + 1) s₂) m s₃ ∙ length-set (set us at s₁) (at + 1) s₂ ∙ length-set us at s₁
@@ -178,11 +209,11 @@ module _ (cov : ℕ → Bool) (xs : List Line) (k d i j : ℕ) (ts us : List Ste
       let v₄ = set v₃ (m + 1) (Close own x i) in
       let n₃ : length v₃ ≡ length us = three in
       looped v₄ (m + 2) (λ y f g. other v₃ (m + 1) (Close own x i) y (omega arith)) (λ y f. other v₃ (m + 1) (Close own x i) y (omega arith))
-        (length-set v₃ (m + 1) (Close own x i) ∙ n₃) (omega arith) (omega arith)
-        (subst (λ y. LoopEnd y v₄ own x i (m + 1) (m + 2)) (sym t) (wrote v₃ (m + 1) (Close own x i) (omega (arith, n₃)), omega arith))
+      (length-set v₃ (m + 1) (Close own x i) ∙ n₃) (omega arith) (omega arith)
+      (subst (λ y. LoopEnd y v₄ own x i (m + 1) (m + 2)) (sym t) (wrote v₃ (m + 1) (Close own x i) (omega (arith, n₃)), omega arith))
 
   pub whole-open : b ≡ false → Converted cov xs k d i j ts (set (set (set us at s₁) (at + 1) s₂) m s₃) at (m + 1)
   whole-open f =
       let v₃ = set (set (set us at s₁) (at + 1) s₂) m s₃ in
       looped v₃ (m + 1) (λ y p q. refl) (λ y p. refl) three (omega arith) (omega arith)
-        (subst (λ y. LoopEnd y v₃ own x i (m + 1) (m + 1)) (sym f) refl)
+      (subst (λ y. LoopEnd y v₃ own x i (m + 1) (m + 1)) (sym f) refl)

@@ -41,9 +41,10 @@ module _ (cov : ℕ → Bool) (ts : List Step) where
       let w = holds-stand k d (end + 1) e j r (subst (λ y. Holds cov ts k d (end + 1) y j r) (g .0) (h .6)) in
       let rs = stepsOf cov k d (end + 1) e r in
       let hd : stepAt ts i ≡ ifHead b own x (m + 1) = subst (λ y. stepAt ts i ≡ ifHead b own x (y + 1)) (f .0) (h .2) in
-      let md : stepAt ts m ≡ ifMiddle b own e = subst (λ y. stepAt ts y ≡ ifMiddle b own e) (f .0) (subst (λ y. stepAt ts (h .0) ≡ ifMiddle b own y) (g .0) (h .4)) in
-      (simp length-append (omega (arith, w .0)),
-        (hd, stands-append (Jump 0) ts (i + 1) ps (ifMiddle b own e ∷ (qs ++ rs)) (f .1) (md, stands-append (Jump 0) ts (m + 1) qs rs (g .1) (w .1))))
+      let md : stepAt ts m ≡ ifMiddle b own e = subst (λ y. stepAt ts y ≡ ifMiddle b own e) (f .0) (subst (λ y. stepAt ts (h .0) ≡ ifMiddle b own y) (g .0) (h .4)) in (
+        simp length-append (omega (arith, w .0)),
+        (hd, stands-append (Jump 0) ts (i + 1) ps (ifMiddle b own e ∷ (qs ++ rs)) (f .1) (md, stands-append (Jump 0) ts (m + 1) qs rs (g .1) (w .1))),
+      )
   holds-stand k d l i j (repeat x n p r) h =
       let b = loopCovered cov k x in
       let own = levelIn b k in
@@ -58,15 +59,16 @@ module _ (cov : ℕ → Bool) (ts : List Step) where
       let rs = stepsOf cov k d (end + 1) e r in
       let bs = ps ++ (loopBack b own n (i + 1) ∷ (es ++ rs)) in
       let md : stepAt ts m ≡ loopBack b own n (i + 1) = subst (λ y. stepAt ts y ≡ loopBack b own n (i + 1)) (f .0) (h .5) in
-      let tail : Here ts (i + 2) bs = stands-append (Jump 0) ts (i + 2) ps (loopBack b own n (i + 1) ∷ (es ++ rs)) (f .1) (md, stands-append (Jump 0) ts (m + 1) es rs (g .1) (w .1)) in
-      (simp length-append (omega (arith, w .0)),
-        (h .2, (subst (λ y. stepAt ts (i + 1) ≡ loopTest b own d x n (y + 1) l) (f .0) (h .3), stands-moved (Jump 0) ts (i + 2) (i + 1 + 1) bs (omega arith) tail)))
+      let tail : Here ts (i + 2) bs = stands-append (Jump 0) ts (i + 2) ps (loopBack b own n (i + 1) ∷ (es ++ rs)) (f .1) (md, stands-append (Jump 0) ts (m + 1) es rs (g .1) (w .1)) in (
+        simp length-append (omega (arith, w .0)),
+        (h .2, (subst (λ y. stepAt ts (i + 1) ≡ loopTest b own d x n (y + 1) l) (f .0) (h .3), stands-moved (Jump 0) ts (i + 2) (i + 1 + 1) bs (omega arith) tail)),
+      )
 
 -- two tables that agree from r on
 same-past : (ts us : List Step) (r : ℕ) → length us ≡ length ts → ((x : ℕ) → r ≤ x → stepAt us x ≡ stepAt ts x) → drop r us ≡ drop r ts
 same-past ts us r l h =
     ext-getD (Jump 0) (drop r us) (drop r ts) (simp length-drop (omega arith))
-      (λ x _. getD-drop r us x (Jump 0) ∙ h (r + x) (omega arith) ∙ sym (getD-drop r ts x (Jump 0)))
+    (λ x _. getD-drop r us x (Jump 0) ∙ h (r + x) (omega arith) ∙ sym (getD-drop r ts x (Jump 0)))
 
 pub front-steps : (cov : ℕ → Bool) (ts us : List Step) (k d l r : ℕ) (c : Code) → Holds cov us k d l 0 r c → r ≤ length us → length us ≡ length ts →
     ((x : ℕ) → r ≤ x → stepAt us x ≡ stepAt ts x) → us ≡ stepsOf cov k d l 0 c ++ drop r ts

@@ -50,20 +50,27 @@ module _ (cov : ℕ → Bool) where
       let e = h .1 in
       let f₁ = holds-le ts (levelIn (cov x) k) d (l + 1) (i + 1) m p (h .3) in
       let f₂ = holds-le ts (levelIn (cov x) k) d _ (m + 1) e q (h .5) in
-      let f₃ = holds-le ts k d _ e j r (h .6) in
-      (m, e, s i (omega arith) (omega arith) ∙ h .2,
+      let f₃ = holds-le ts k d _ e j r (h .6) in (
+        m,
+        e,
+        s i (omega arith) (omega arith) ∙ h .2,
         holds-kept ts us (levelIn (cov x) k) d (l + 1) (i + 1) m p (λ y u v. s y (omega arith) (omega arith)) (h .3),
         s m (omega arith) (omega arith) ∙ h .4,
         holds-kept ts us (levelIn (cov x) k) d _ (m + 1) e q (λ y u v. s y (omega arith) (omega arith)) (h .5),
-        holds-kept ts us k d _ e j r (λ y u v. s y (omega arith) (omega arith)) (h .6))
+        holds-kept ts us k d _ e j r (λ y u v. s y (omega arith) (omega arith)) (h .6),
+      )
   holds-kept ts us k d l i j (repeat x n p r) s h =
       let m = h .0 in
       let e = h .1 in
       let f₁ = holds-le ts (levelIn (loopCovered cov k x) k) (loopsIn (loopCovered cov k x) d) (l + 1) (i + 2) m p (h .4) in
       let f₂ = ends-le _ ts _ x l _ _ (h .6) in
-      let f₃ = holds-le ts k d _ e j r (h .7) in
-      (m, e, s i (omega arith) (omega arith) ∙ h .2, s (i + 1) (omega arith) (omega arith) ∙ h .3,
+      let f₃ = holds-le ts k d _ e j r (h .7) in (
+        m,
+        e,
+        s i (omega arith) (omega arith) ∙ h .2,
+        s (i + 1) (omega arith) (omega arith) ∙ h .3,
         holds-kept ts us (levelIn (loopCovered cov k x) k) (loopsIn (loopCovered cov k x) d) (l + 1) (i + 2) m p (λ y u v. s y (omega arith) (omega arith)) (h .4),
         s m (omega arith) (omega arith) ∙ h .5,
         ends-kept _ ts us _ x l (m + 1) e (λ y u v. s y (omega arith) (omega arith)) (h .6),
-        holds-kept ts us k d _ e j r (λ y u v. s y (omega arith) (omega arith)) (h .7))
+        holds-kept ts us k d _ e j r (λ y u v. s y (omega arith) (omega arith)) (h .7),
+      )

@@ -43,15 +43,24 @@ module _ (xs : List Line) (i j : ℕ) (more : i ≡ j → ⊥) where
   part-if x e z w ez c h =
       let v = at-if xs i j more x e w c h in
       let zz : v .z + 1 ≡ z + 1 = sym (ap (λ y. y + 1) (ez ∙ ap endOf (v .mid))) in
-      record { one = choose x (v .first) (v .second) stop; rest = v .rest; is = v .is;
+      record {
+        one = choose x (v .first) (v .second) stop;
+        rest = v .rest;
+        is = v .is;
         spans-one = (e, v .z, w, v .spans-first, v .mid, v .spans-second, v .end, zz);
-        spans-rest = subst (λ y. Spans xs y j (v .rest)) zz (v .spans-rest) }
+        spans-rest = subst (λ y. Spans xs y j (v .rest)) zz (v .spans-rest);
+      }
 
   pub part-loop : (x n e : ℕ) → lineAt xs i ≡ Loop x n e → (c : Code) → Spans xs i j c → Parts xs i (e + 1) j c
   part-loop x n e w c h =
       let v = at-loop xs i j more x n e w c h in
-      record { one = repeat x n (v .first) stop; rest = v .rest; is = v .is;
-        spans-one = (e, w, v .spans-first, v .end, refl); spans-rest = v .spans-rest }
+      record {
+        one = repeat x n (v .first) stop;
+        rest = v .rest;
+        is = v .is;
+        spans-one = (e, w, v .spans-first, v .end, refl);
+        spans-rest = v .spans-rest;
+      }
 
 module _ (cov : ℕ → Bool) (ts : List Step) (k d : ℕ) where
   holds-moved : (l l′ i i′ j : ℕ) (c : Code) → l ≡ l′ → i ≡ i′ → Holds cov ts k d l i j c → Holds cov ts k d l′ i′ j c
@@ -63,11 +72,24 @@ module _ (cov : ℕ → Bool) (ts : List Step) (k d : ℕ) where
       (h .0, holds-follow (l + 1) (i + 1) m j r s (h .1) (holds-moved _ (l + 1 + sizeOf r) m m j s (omega arith) refl g))
   holds-follow l i m j (literal t n r) s h g =
       (h .0, holds-follow (l + 1) (i + 1) m j r s (h .1) (holds-moved _ (l + 1 + sizeOf r) m m j s (omega arith) refl g))
-  holds-follow l i m j (choose x p q r) s h g =
-      (h .0, h .1, h .2, h .3, h .4, h .5,
-        holds-follow (l + 1 + sizeOf p + 1 + sizeOf q + 1) (h .1) m j r s (h .6)
-          (holds-moved _ (l + 1 + sizeOf p + 1 + sizeOf q + 1 + sizeOf r) m m j s (omega arith) refl g))
-  holds-follow l i m j (repeat x n p r) s h g =
-      (h .0, h .1, h .2, h .3, h .4, h .5, h .6,
-        holds-follow (l + 1 + sizeOf p + 1) (h .1) m j r s (h .7)
-          (holds-moved _ (l + 1 + sizeOf p + 1 + sizeOf r) m m j s (omega arith) refl g))
+  holds-follow l i m j (choose x p q r) s h g = (
+    h .0,
+    h .1,
+    h .2,
+    h .3,
+    h .4,
+    h .5,
+    holds-follow (l + 1 + sizeOf p + 1 + sizeOf q + 1) (h .1) m j r s (h .6)
+        (holds-moved _ (l + 1 + sizeOf p + 1 + sizeOf q + 1 + sizeOf r) m m j s (omega arith) refl g),
+  )
+  holds-follow l i m j (repeat x n p r) s h g = (
+    h .0,
+    h .1,
+    h .2,
+    h .3,
+    h .4,
+    h .5,
+    h .6,
+    holds-follow (l + 1 + sizeOf p + 1) (h .1) m j r s (h .7)
+        (holds-moved _ (l + 1 + sizeOf p + 1 + sizeOf r) m m j s (omega arith) refl g),
+  )

@@ -8,7 +8,14 @@ ghost use Rattle.sheet.specs.Spans.{lineAt, Spans, endOf, pastOf};
 ghost use Rattle.onepath.specs.Cover.{coveredIn};
 ghost use Rattle.onepath.specs.Listed.{stepsOf};
 ghost use Rattle.onepath.specs.Holds.{Converted};
-use crate::constructs::{if_head, if_middle, is_cell_covered, is_loop_covered, loop_back, loop_head, loop_test, Around};
+use crate::constructs::Around;
+use crate::constructs::if_head;
+use crate::constructs::if_middle;
+use crate::constructs::is_cell_covered;
+use crate::constructs::is_loop_covered;
+use crate::constructs::loop_back;
+use crate::constructs::loop_head;
+use crate::constructs::loop_test;
 use crate::steps::Step;
 use sheet::Line;
 
@@ -27,7 +34,15 @@ fn end_of(line: Line) -> usize
 }
 
 // Converts the lines from `from` up to `to`, a block, into the steps from `at` on. Returns the place after them.
-fn convert_block(lines: &[Line], from: usize, to: usize, covered: &[bool], around: Around, steps: &mut [Step], at: usize) -> usize
+fn convert_block(
+    lines: &[Line],
+    from: usize,
+    to: usize,
+    covered: &[bool],
+    around: Around,
+    steps: &mut [Step],
+    at: usize,
+) -> usize
     requires reads { ⌜ ((c : Code) × Spans (now lines) from to c) ⌝ }
     requires ordered { ⌜ from ≤ to ⌝ }
     requires inside { ⌜ to ≤ length (now lines) ⌝ }
@@ -41,12 +56,22 @@ fn convert_block(lines: &[Line], from: usize, to: usize, covered: &[bool], aroun
         let line = lines[i];
         match line {
             Line::Work { target, op, a, b } => {
-                steps[n] = Step::Work { level: around.level, target, op, a, b };
+                steps[n] = Step::Work {
+                    level: around.level,
+                    target,
+                    op,
+                    a,
+                    b,
+                };
                 n += 1;
                 i += 1;
             }
             Line::Literal { target, number } => {
-                steps[n] = Step::Literal { level: around.level, target, number };
+                steps[n] = Step::Literal {
+                    level: around.level,
+                    target,
+                    number,
+                };
                 n += 1;
                 i += 1;
             }
@@ -69,7 +94,15 @@ fn convert_block(lines: &[Line], from: usize, to: usize, covered: &[bool], aroun
 
 // Converts the construct that the line `from` opens and whose last line is before `to`. Returns the place after its
 // steps. How far a block's steps go is known once it is converted, so the construct's own steps are written last.
-fn convert_construct(lines: &[Line], from: usize, to: usize, covered: &[bool], around: Around, steps: &mut [Step], at: usize) -> usize
+fn convert_construct(
+    lines: &[Line],
+    from: usize,
+    to: usize,
+    covered: &[bool],
+    around: Around,
+    steps: &mut [Step],
+    at: usize,
+) -> usize
     requires reads { ⌜ ((c : Code) × Spans (now lines) from to c) ⌝ }
     requires one { ⌜ to ≡ pastOf (now lines) (lineAt (now lines) from) ⌝ }
     requires ordered { ⌜ from < to ⌝ }
@@ -94,10 +127,22 @@ fn convert_construct(lines: &[Line], from: usize, to: usize, covered: &[bool], a
             let inner = around.in_loop(is_covered);
             let mid = convert_block(lines, from + 1, to - 1, covered, inner, steps, at + 2);
             steps[at] = loop_head(is_covered, inner.level, around.loops);
-            steps[at + 1] = loop_test(is_covered, inner.level, around.loops, cell, bound, mid + 1, from);
+            steps[at + 1] = loop_test(
+                is_covered,
+                inner.level,
+                around.loops,
+                cell,
+                bound,
+                mid + 1,
+                from,
+            );
             steps[mid] = loop_back(is_covered, inner.level, bound, at + 1);
             if is_covered {
-                steps[mid + 1] = Step::Close { level: inner.level, cell, line: from };
+                steps[mid + 1] = Step::Close {
+                    level: inner.level,
+                    cell,
+                    line: from,
+                };
                 mid + 2
             } else {
                 mid + 1
@@ -111,7 +156,12 @@ fn convert_construct(lines: &[Line], from: usize, to: usize, covered: &[bool], a
 }
 
 // Converts the first `count` lines of the table, a whole sheet's. Returns how many steps there are, at most two a line.
-pub(crate) fn convert_lines(lines: &[Line], count: usize, covered: &[bool], steps: &mut [Step]) -> usize
+pub(crate) fn convert_lines(
+    lines: &[Line],
+    count: usize,
+    covered: &[bool],
+    steps: &mut [Step],
+) -> usize
     requires reads { ⌜ ((c : Code) × Spans (now lines) 0 count c) ⌝ }
     requires inside { ⌜ count ≤ length (now lines) ⌝ }
     requires few { ⌜ count ≤ 512 ⌝ }
@@ -120,5 +170,96 @@ pub(crate) fn convert_lines(lines: &[Line], count: usize, covered: &[bool], step
     ensures number { λ r. ⌜ ((c : Code) → Spans (now (lines .entry)) 0 count c → r ≡ length (stepsOf (coveredIn (now (covered .entry))) 0 0 0 0 c)) ⌝ }
     ensures most { λ r. ⌜ r ≤ 2 * count ⌝ }
 {
-    convert_block(lines, 0, count, covered, Around { level: 0, loops: 0 }, steps, 0)
+    convert_block(
+        lines,
+        0,
+        count,
+        covered,
+        Around { level: 0, loops: 0 },
+        steps,
+        0,
+    )
+}
+
+#[cfg(test)]
+mod tests {
+    use super::*;
+    use std::test::*;
+
+    // Cell 1 is covered, so the loop on it is: setout, narrow, its block, again, close.
+    #[test]
+    fn covered_loop() -> Result<(), Fail> {
+        let lines = [
+            Line::Literal {
+                target: 0,
+                number: 1,
+            },
+            Line::Loop {
+                cell: 1,
+                bound: 3,
+                partner: 4,
+            },
+            Line::Work {
+                target: 1,
+                op: 1,
+                a: 1,
+                b: 0,
+            },
+            Line::Work {
+                target: 2,
+                op: 0,
+                a: 2,
+                b: 0,
+            },
+            Line::End { partner: 1 },
+        ];
+        let mut steps = [Step::Jump { to: 0 }; 10];
+        let count = convert_lines(&lines, 5, &[false, true], &mut steps);
+        check_eq(count, 7)?;
+        let again = steps[5];
+        match again {
+            Step::Again { level, bound, to } => check(level == 1 && bound == 3 && to == 2)?,
+            _ => return Err(Fail::new("no again")),
+        }
+        let close = steps[6];
+        match close {
+            Step::Close { level, cell, line } => check(level == 1 && cell == 1 && line == 1),
+            _ => Err(Fail::new("no close")),
+        }
+    }
+
+    // Nothing is covered, so the loop is open: enter, test, its block, jump.
+    #[test]
+    fn open_loop() -> Result<(), Fail> {
+        let lines = [
+            Line::Loop {
+                cell: 0,
+                bound: 2,
+                partner: 2,
+            },
+            Line::Literal {
+                target: 0,
+                number: 0,
+            },
+            Line::End { partner: 0 },
+        ];
+        let mut steps = [Step::Jump { to: 9 }; 6];
+        let count = convert_lines(&lines, 3, &[], &mut steps);
+        check_eq(count, 4)?;
+        let test = steps[1];
+        match test {
+            Step::Test {
+                counter,
+                to,
+                line,
+                ..
+            } => check(counter == 0 && to == 4 && line == 0)?,
+            _ => return Err(Fail::new("no test")),
+        }
+        let jump = steps[3];
+        match jump {
+            Step::Jump { to } => check(to == 1),
+            _ => Err(Fail::new("no jump")),
+        }
+    }
 }

@@ -3,4 +3,5 @@
 mod constructs;
 mod convert;
 mod steps;
+
 pub use steps::Step;

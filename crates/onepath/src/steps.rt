@@ -7,28 +7,69 @@ ghost use Rattle.onepath.specs.Names.{nameOf};
 #[derive(Clone, Copy)]
 pub enum Step {
     // The line's operation on two cells.
-    Work { level: usize, target: u8, op: u8, a: u8, b: u8 },
+    Work {
+        level: usize,
+        target: u8,
+        op: u8,
+        a: u8,
+        b: u8,
+    },
     // The line's number into its target.
-    Literal { level: usize, target: u8, number: u32 },
+    Literal {
+        level: usize,
+        target: u8,
+        number: u32,
+    },
     // Begins a covered if: its level's guard holds where the cell does.
-    Ask { level: usize, cell: u8 },
+    Ask {
+        level: usize,
+        cell: u8,
+    },
     // Comes to a covered if's second block: its level's guard turns.
-    Turn { level: usize },
+    Turn {
+        level: usize,
+    },
     // Begins a covered loop.
-    Setout { level: usize },
+    Setout {
+        level: usize,
+    },
     // Begins a pass of a covered loop: its level's guard holds on only where the cell does.
-    Narrow { level: usize, cell: u8 },
+    Narrow {
+        level: usize,
+        cell: u8,
+    },
     // Ends a pass of a covered loop, and goes back while there were fewer than `bound`.
-    Again { level: usize, bound: u8, to: usize },
+    Again {
+        level: usize,
+        bound: u8,
+        to: usize,
+    },
     // Ends a covered loop: it broke its bound where its guard and its cell still hold.
-    Close { level: usize, cell: u8, line: usize },
+    Close {
+        level: usize,
+        cell: u8,
+        line: usize,
+    },
     // Begins an open if: goes on where the cell holds, else to the second block.
-    Branch { cell: u8, to: usize },
-    Jump { to: usize },
+    Branch {
+        cell: u8,
+        to: usize,
+    },
+    Jump {
+        to: usize,
+    },
     // Begins an open loop.
-    Enter { counter: usize },
+    Enter {
+        counter: usize,
+    },
     // Begins a pass of an open loop: goes on where the cell holds, else past the loop; at most `bound` passes.
-    Test { counter: usize, cell: u8, bound: u8, to: usize, line: usize },
+    Test {
+        counter: usize,
+        cell: u8,
+        bound: u8,
+        to: usize,
+        line: usize,
+    },
 }
 
 impl Step {

@@ -16,20 +16,28 @@ use Rattle.onepath.proofs.convert.+convert_block+convert_construct.Needs as ne
 pub convert-block-loop-i-again-in-Work : need.convert-block-loop-i-again-in-Work
 convert-block-loop-i-again-in-Work t c =
     let parts = part-work (c .args .lines .now) (c .loop-i .i) (c .args .to) (omega arith) _ _ _ _ (c .in-Work .is) in
-    let v = parts (c .loop-i .inv .3 .0) (c .loop-i .inv .3 .1) in
-    (omega arith, omega arith, simp length-set (omega arith), (v .rest, v .spans-rest),
+    let v = parts (c .loop-i .inv .3 .0) (c .loop-i .inv .3 .1) in (
+      omega arith,
+      omega arith,
+      simp length-set (omega arith),
+      (v .rest, v .spans-rest),
       λ us r d. c .loop-i .inv .4 us r
-        (joined _ (c .args .lines .now) (c .args .around .level) (c .args .around .loops) (c .loop-i .i) (c .loop-i .i + 1) (c .args .to) (c .loop-i .steps) _ us (c .loop-i .n) _ r (omega arith) (omega arith) parts
-          (one-work _ _ _ _ _ _ _ _ _ _ _ (omega arith) (c .in-Work .is)) d))
+          (joined _ (c .args .lines .now) (c .args .around .level) (c .args .around .loops) (c .loop-i .i) (c .loop-i .i + 1) (c .args .to) (c .loop-i .steps) _ us (c .loop-i .n) _ r (omega arith) (omega arith) parts
+          (one-work _ _ _ _ _ _ _ _ _ _ _ (omega arith) (c .in-Work .is)) d),
+    )
 
 pub convert-block-loop-i-again-in-Literal : need.convert-block-loop-i-again-in-Literal
 convert-block-loop-i-again-in-Literal t c =
     let parts = part-literal (c .args .lines .now) (c .loop-i .i) (c .args .to) (omega arith) _ _ (c .in-Literal .is) in
-    let v = parts (c .loop-i .inv .3 .0) (c .loop-i .inv .3 .1) in
-    (omega arith, omega arith, simp length-set (omega arith), (v .rest, v .spans-rest),
+    let v = parts (c .loop-i .inv .3 .0) (c .loop-i .inv .3 .1) in (
+      omega arith,
+      omega arith,
+      simp length-set (omega arith),
+      (v .rest, v .spans-rest),
       λ us r d. c .loop-i .inv .4 us r
-        (joined _ (c .args .lines .now) (c .args .around .level) (c .args .around .loops) (c .loop-i .i) (c .loop-i .i + 1) (c .args .to) (c .loop-i .steps) _ us (c .loop-i .n) _ r (omega arith) (omega arith) parts
-          (one-literal _ _ _ _ _ _ _ _ _ (omega arith) (c .in-Literal .is)) d))
+          (joined _ (c .args .lines .now) (c .args .around .level) (c .args .around .loops) (c .loop-i .i) (c .loop-i .i + 1) (c .args .to) (c .loop-i .steps) _ us (c .loop-i .n) _ r (omega arith) (omega arith) parts
+          (one-literal _ _ _ _ _ _ _ _ _ (omega arith) (c .in-Literal .is)) d),
+    )
 
 pub convert-block-offset-lines-partner : need.convert-block-offset-lines-partner
 convert-block-offset-lines-partner t c =
@@ -53,11 +61,16 @@ pub convert-block-convert-construct-n-requires : need.convert-block-convert-cons
 convert-block-convert-construct-n-requires t c κs =
     let v = at-if (c .args .lines .now) (c .loop-i .i) (c .args .to) (omega arith) _ _ (c .in-If .is) (c .loop-i .inv .3 .0) (c .loop-i .inv .3 .1) in
     let p = part-if (c .args .lines .now) (c .loop-i .i) (c .args .to) (omega arith) _ _ _ (c .in-If .is) (c .end-of-next-line .ensures) (c .loop-i .inv .3 .0) (c .loop-i .inv .3 .1) in
-    let e : c .end-of-next-line .result ≡ v .z = c .end-of-next-line .ensures ∙ ap endOf (v .mid) in
-    (omega (arith, c .measured, e, v .le-first, v .le-second, v .le-rest),
-      ((p .one, p .spans-one),
-      (ap (λ y. y + 1) (c .end-of-next-line .ensures) ∙ sym (ap (pastOf (c .args .lines .now)) (c .in-If .is)),
-      (omega (arith, e, v .le-first, v .le-second), (omega (arith, e, v .le-rest), (omega (arith, e, v .le-first, v .le-second, v .le-rest), (omega arith, omega arith)))))))
+    let e : c .end-of-next-line .result ≡ v .z = c .end-of-next-line .ensures ∙ ap endOf (v .mid) in (
+      omega (arith, c .measured, e, v .le-first, v .le-second, v .le-rest),
+      (
+        (p .one, p .spans-one),
+        (
+          ap (λ y. y + 1) (c .end-of-next-line .ensures) ∙ sym (ap (pastOf (c .args .lines .now)) (c .in-If .is)),
+          (omega (arith, e, v .le-first, v .le-second), (omega (arith, e, v .le-rest), (omega (arith, e, v .le-first, v .le-second, v .le-rest), (omega arith, omega arith)))),
+        ),
+      ),
+    )
 
 pub convert-block-loop-i-less-in-If : need.convert-block-loop-i-less-in-If
 convert-block-loop-i-less-in-If t c =
@@ -71,12 +84,15 @@ convert-block-loop-i-again-in-If t c =
     let e : c .end-of-next-line .result ≡ v .z = c .end-of-next-line .ensures ∙ ap endOf (v .mid) in
     let parts = part-if (c .args .lines .now) (c .loop-i .i) (c .args .to) (omega arith) _ _ _ (c .in-If .is) (c .end-of-next-line .ensures) in
     let d₁ = c .convert-construct-n .ensures in
-    let w = parts (c .loop-i .inv .3 .0) (c .loop-i .inv .3 .1) in
-    (omega (arith, e, v .le-first, v .le-second), omega (arith, e, v .le-rest), omega (arith, e, d₁ .long, d₁ .most, v .le-first, v .le-second, v .le-rest),
+    let w = parts (c .loop-i .inv .3 .0) (c .loop-i .inv .3 .1) in (
+      omega (arith, e, v .le-first, v .le-second),
+      omega (arith, e, v .le-rest),
+      omega (arith, e, d₁ .long, d₁ .most, v .le-first, v .le-second, v .le-rest),
       (w .rest, w .spans-rest),
       λ us r d. c .loop-i .inv .4 us r
-        (joined _ (c .args .lines .now) (c .args .around .level) (c .args .around .loops) (c .loop-i .i) (c .end-of-next-line .result + 1) (c .args .to) (c .loop-i .steps) _ us (c .loop-i .n) _ r
-          (omega (arith, e, v .le-first, v .le-second)) (omega (arith, e, v .le-rest)) parts d₁ d))
+          (joined _ (c .args .lines .now) (c .args .around .level) (c .args .around .loops) (c .loop-i .i) (c .end-of-next-line .result + 1) (c .args .to) (c .loop-i .steps) _ us (c .loop-i .n) _ r
+          (omega (arith, e, v .le-first, v .le-second)) (omega (arith, e, v .le-rest)) parts d₁ d),
+    )
 
 pub convert-block-add-next-line-in-Loop : need.convert-block-add-next-line-in-Loop
 convert-block-add-next-line-in-Loop t c =
@@ -88,11 +104,16 @@ pub convert-block-convert-construct-n-requires-in-Loop :
     need.convert-block-convert-construct-n-requires-in-Loop
 convert-block-convert-construct-n-requires-in-Loop t c κs =
     let v = at-loop (c .args .lines .now) (c .loop-i .i) (c .args .to) (omega arith) _ _ _ (c .in-Loop .is) (c .loop-i .inv .3 .0) (c .loop-i .inv .3 .1) in
-    let p = part-loop (c .args .lines .now) (c .loop-i .i) (c .args .to) (omega arith) _ _ _ (c .in-Loop .is) (c .loop-i .inv .3 .0) (c .loop-i .inv .3 .1) in
-    (omega (arith, c .measured, v .le-first, v .le-rest),
-      ((p .one, p .spans-one),
-      (sym (ap (pastOf (c .args .lines .now)) (c .in-Loop .is)),
-      (omega (arith, v .le-first), (omega (arith, v .le-rest), (omega (arith, v .le-first, v .le-rest), (omega arith, omega arith)))))))
+    let p = part-loop (c .args .lines .now) (c .loop-i .i) (c .args .to) (omega arith) _ _ _ (c .in-Loop .is) (c .loop-i .inv .3 .0) (c .loop-i .inv .3 .1) in (
+      omega (arith, c .measured, v .le-first, v .le-rest),
+      (
+        (p .one, p .spans-one),
+        (
+          sym (ap (pastOf (c .args .lines .now)) (c .in-Loop .is)),
+          (omega (arith, v .le-first), (omega (arith, v .le-rest), (omega (arith, v .le-first, v .le-rest), (omega arith, omega arith)))),
+        ),
+      ),
+    )
 
 pub convert-block-loop-i-less : need.convert-block-loop-i-less
 convert-block-loop-i-less t c =
@@ -102,13 +123,16 @@ convert-block-loop-i-less t c =
 pub convert-block-loop-i-again : need.convert-block-loop-i-again
 convert-block-loop-i-again t c =
     let v = at-loop (c .args .lines .now) (c .loop-i .i) (c .args .to) (omega arith) _ _ _ (c .in-Loop .is) (c .loop-i .inv .3 .0) (c .loop-i .inv .3 .1) in
-    let d₁ = c .convert-construct-n-in-Loop .ensures in
-    (omega (arith, v .le-first), omega (arith, v .le-rest), omega (arith, d₁ .long, d₁ .most, v .le-first, v .le-rest),
+    let d₁ = c .convert-construct-n-in-Loop .ensures in (
+      omega (arith, v .le-first),
+      omega (arith, v .le-rest),
+      omega (arith, d₁ .long, d₁ .most, v .le-first, v .le-rest),
       (v .rest, v .spans-rest),
       λ us r d. c .loop-i .inv .4 us r
-        (joined _ (c .args .lines .now) (c .args .around .level) (c .args .around .loops) (c .loop-i .i) (c .in-Loop .partner + 1) (c .args .to) (c .loop-i .steps) _ us (c .loop-i .n) _ r
+          (joined _ (c .args .lines .now) (c .args .around .level) (c .args .around .loops) (c .loop-i .i) (c .in-Loop .partner + 1) (c .args .to) (c .loop-i .steps) _ us (c .loop-i .n) _ r
           (omega (arith, v .le-first)) (omega (arith, v .le-rest))
-          (part-loop (c .args .lines .now) (c .loop-i .i) (c .args .to) (omega arith) _ _ _ (c .in-Loop .is)) d₁ d))
+          (part-loop (c .args .lines .now) (c .loop-i .i) (c .args .to) (omega arith) _ _ _ (c .in-Loop .is)) d₁ d),
+    )
 
 pub convert-block-unreachable-requires : need.convert-block-unreachable-requires
 convert-block-unreachable-requires t c κs = not-else (c .args .lines .now) (c .loop-i .i) (c .args .to) (omega arith) _ (c .in-Else .is) (c .loop-i .inv .3 .0) (c .loop-i .inv .3 .1)
@@ -125,9 +149,10 @@ pub convert-construct-convert-block-mid-requires :
     need.convert-construct-convert-block-mid-requires
 convert-construct-convert-block-mid-requires t c κs =
     let v = at-if (c .args .lines .now) (c .args .from) (c .args .to) (omega arith) _ _ (c .in-If .is) (c .pre .reads .0) (c .pre .reads .1) in
-    let i = c .in-if-inner .ensures in
-    (omega (arith, c .measured, v .le-first, v .le-second, v .le-rest),
-      ((v .first, v .spans-first), (v .le-first, (omega (arith, v .le-second, v .le-rest), (omega (arith, v .le-first, v .le-second, v .le-rest), (omega (arith, i .most), omega (arith, i .loops)))))))
+    let i = c .in-if-inner .ensures in (
+      omega (arith, c .measured, v .le-first, v .le-second, v .le-rest),
+      ((v .first, v .spans-first), (v .le-first, (omega (arith, v .le-second, v .le-rest), (omega (arith, v .le-first, v .le-second, v .le-rest), (omega (arith, i .most), omega (arith, i .loops)))))),
+    )
 
 pub convert-construct-add-partner : need.convert-construct-add-partner
 convert-construct-add-partner t c =
@@ -149,10 +174,13 @@ convert-construct-convert-block-next-requires t c κs =
     let d = c .convert-block-mid .ensures in
     let i = c .in-if-inner .ensures in
     let zz : v .z + 1 ≡ c .args .to = sym (c .pre .one ∙ ap (pastOf (c .args .lines .now)) (c .in-If .is) ∙ ap (λ l. endOf l + 1) (v .mid)) in
-    let zj : v .z ≡ c .args .to - 1 = omega (arith, zz) in
-    (omega (arith, c .measured, zz, v .le-first, v .le-second),
-      ((v .second, subst (λ y. Spans (c .args .lines .now) (c .in-If .partner + 1) y (v .second)) zj (v .spans-second)),
-      (omega (arith, zz, v .le-second), (omega arith, (omega (arith, zz, d .long, d .most, v .le-first, v .le-second), (omega (arith, i .most, v .le-first), omega (arith, i .loops, v .le-first)))))))
+    let zj : v .z ≡ c .args .to - 1 = omega (arith, zz) in (
+      omega (arith, c .measured, zz, v .le-first, v .le-second),
+      (
+        (v .second, subst (λ y. Spans (c .args .lines .now) (c .in-If .partner + 1) y (v .second)) zj (v .spans-second)),
+        (omega (arith, zz, v .le-second), (omega arith, (omega (arith, zz, d .long, d .most, v .le-first, v .le-second), (omega (arith, i .most, v .le-first), omega (arith, i .loops, v .le-first))))),
+      ),
+    )
 
 pub convert-construct-offset-steps-mid : need.convert-construct-offset-steps-mid
 convert-construct-offset-steps-mid t c =
@@ -174,10 +202,13 @@ convert-construct-convert-block-mid-requires-in-Loop t c κs =
     let v = at-loop (c .args .lines .now) (c .args .from) (c .args .to) (omega arith) _ _ _ (c .in-Loop .is) (c .pre .reads .0) (c .pre .reads .1) in
     let i = c .in-loop-inner .ensures .most in
     let jj : c .args .to ≡ c .in-Loop .partner + 1 = c .pre .one ∙ ap (pastOf (c .args .lines .now)) (c .in-Loop .is) in
-    let zj : c .in-Loop .partner ≡ c .args .to - 1 = omega (arith, jj) in
-    (omega (arith, c .measured, jj, v .le-first),
-      ((v .first, subst (λ y. Spans (c .args .lines .now) (c .args .from + 1) y (v .first)) zj (v .spans-first)),
-      (omega (arith, jj, v .le-first), (omega arith, (omega (arith, jj, v .le-first), (omega (arith, i .0), omega (arith, i .1)))))))
+    let zj : c .in-Loop .partner ≡ c .args .to - 1 = omega (arith, jj) in (
+      omega (arith, c .measured, jj, v .le-first),
+      (
+        (v .first, subst (λ y. Spans (c .args .lines .now) (c .args .from + 1) y (v .first)) zj (v .spans-first)),
+        (omega (arith, jj, v .le-first), (omega arith, (omega (arith, jj, v .le-first), (omega (arith, i .0), omega (arith, i .1))))),
+      ),
+    )
 
 pub convert-construct-index-steps-mid-in-Loop : need.convert-construct-index-steps-mid-in-Loop
 convert-construct-index-steps-mid-in-Loop t c =
@@ -200,9 +231,9 @@ convert-construct-returns-in-If t c =
     let zz : v .z + 1 ≡ c .args .to = sym (c .pre .one ∙ ap (pastOf (c .args .lines .now)) (c .in-If .is) ∙ ap (λ l. endOf l + 1) (v .mid)) in
     let i = c .in-if-inner .ensures in
     whole-if (coveredIn (c .args .covered .now)) (c .args .lines .now) (c .args .around .level) (c .args .around .loops) (c .args .from) (c .args .to) (c .args .steps .now) _ (c .convert-block-next .last .steps) (c .args .at) (c .convert-block-mid .result) _ (c .in-If .cell) _ (c .is-cell-covered-is-covered .result) (c .in-if-inner .result .level) (c .in-if-inner .result .loops) (c .if-head .result) (c .if-middle .result)
-      (omega arith) (c .in-If .is) (c .pre .one) (omega arith) (v .le-first) (omega (arith, zz, v .le-second))
-      (c .is-cell-covered-is-covered .ensures) (i .level) (i .loops)
-      (c .convert-block-mid .ensures) (c .convert-block-next .ensures) (c .if-head .ensures) (c .if-middle .ensures)
+    (omega arith) (c .in-If .is) (c .pre .one) (omega arith) (v .le-first) (omega (arith, zz, v .le-second))
+    (c .is-cell-covered-is-covered .ensures) (i .level) (i .loops)
+    (c .convert-block-mid .ensures) (c .convert-block-next .ensures) (c .if-head .ensures) (c .if-middle .ensures)
 
 pub convert-construct-returns-then-is-covered : need.convert-construct-returns-then-is-covered
 convert-construct-returns-then-is-covered t c =
@@ -210,9 +241,9 @@ convert-construct-returns-then-is-covered t c =
     let d = c .convert-block-mid-in-Loop .ensures in
     let i = c .in-loop-inner .ensures in
     whole-covered (coveredIn (c .args .covered .now)) (c .args .lines .now) (c .args .around .level) (c .args .around .loops) (c .args .from) (c .args .to) (c .args .steps .now) (c .convert-block-mid-in-Loop .last .steps) (c .args .at) (c .convert-block-mid-in-Loop .result) (c .in-Loop .cell) (c .in-Loop .bound) _ (c .is-loop-covered-is-covered .result) (c .in-loop-inner .result .level) (c .in-loop-inner .result .loops) (c .loop-head .result) (c .loop-test .result) (c .loop-back .result)
-      (omega arith) (c .in-Loop .is) (c .pre .one) (omega arith) (omega (arith, v .le-first, v .le-rest))
-      (c .is-loop-covered-is-covered .ensures) (i .level) (i .loops) d (c .loop-head .ensures) (c .loop-test .ensures) (c .loop-back .ensures)
-      (c .if-is-covered .taken) (omega (arith, d .most, d .long, v .le-first, v .le-rest))
+    (omega arith) (c .in-Loop .is) (c .pre .one) (omega arith) (omega (arith, v .le-first, v .le-rest))
+    (c .is-loop-covered-is-covered .ensures) (i .level) (i .loops) d (c .loop-head .ensures) (c .loop-test .ensures) (c .loop-back .ensures)
+    (c .if-is-covered .taken) (omega (arith, d .most, d .long, v .le-first, v .le-rest))
 
 pub convert-construct-returns-else-is-covered : need.convert-construct-returns-else-is-covered
 convert-construct-returns-else-is-covered t c =
@@ -220,6 +251,6 @@ convert-construct-returns-else-is-covered t c =
     let d = c .convert-block-mid-in-Loop .ensures in
     let i = c .in-loop-inner .ensures in
     whole-open (coveredIn (c .args .covered .now)) (c .args .lines .now) (c .args .around .level) (c .args .around .loops) (c .args .from) (c .args .to) (c .args .steps .now) (c .convert-block-mid-in-Loop .last .steps) (c .args .at) (c .convert-block-mid-in-Loop .result) (c .in-Loop .cell) (c .in-Loop .bound) _ (c .is-loop-covered-is-covered .result) (c .in-loop-inner .result .level) (c .in-loop-inner .result .loops) (c .loop-head .result) (c .loop-test .result) (c .loop-back .result)
-      (omega arith) (c .in-Loop .is) (c .pre .one) (omega arith) (omega (arith, v .le-first, v .le-rest))
-      (c .is-loop-covered-is-covered .ensures) (i .level) (i .loops) d (c .loop-head .ensures) (c .loop-test .ensures) (c .loop-back .ensures)
-      (c .if-is-covered .left)
+    (omega arith) (c .in-Loop .is) (c .pre .one) (omega arith) (omega (arith, v .le-first, v .le-rest))
+    (c .is-loop-covered-is-covered .ensures) (i .level) (i .loops) d (c .loop-head .ensures) (c .loop-test .ensures) (c .loop-back .ensures)
+    (c .if-is-covered .left)

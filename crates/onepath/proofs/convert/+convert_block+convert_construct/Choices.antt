@@ -20,7 +20,7 @@ Inv-convert-block-loop-i l =
     (l .from ≤ l .i) × (l .i ≤ l .to) × (l .n + 2 * (l .to - l .i) ≤ length (l .steps)) ×
     ((c : Code) × Spans (l .lines) (l .i) (l .to) c) ×
     ((us : List Step) (r : ℕ) → Converted (coveredIn (l .covered)) (l .lines) (l .around .level) (l .around .loops) (l .i) (l .to) (l .steps) us (l .n) r →
-      Converted (coveredIn (l .covered)) (l .lines) (l .around .level) (l .around .loops) (l .from) (l .to) (l .entry .steps) us (l .at) r)
+    Converted (coveredIn (l .covered)) (l .lines) (l .around .level) (l .around .loops) (l .from) (l .to) (l .entry .steps) us (l .at) r)
 
 abbrev pub μ-convert-block-loop-i : given.MeasureT-convert-block-loop-i
 μ-convert-block-loop-i l = l .to - l .i

@@ -9,4 +9,5 @@ returns c =
     record {
       listed = λ p h. front-steps (coveredIn (c .args .covered .now)) (c .args .steps .now) (c .convert-block .last .steps) 0 0 0 (c .convert-block .result) p (d .holds p h) (omega (arith, d .most, d .long)) (d .long) (d .above);
       number = λ p h. omega (arith, holds-stand (coveredIn (c .args .covered .now)) (c .convert-block .last .steps) 0 0 0 0 (c .convert-block .result) p (d .holds p h) .0);
-      most = omega (arith, d .most) }
+      most = omega (arith, d .most);
+    }
