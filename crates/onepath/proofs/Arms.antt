@@ -7,18 +7,20 @@ use Prim.Native.Nat.{ℕ, _+_, _-_, _*_, _<_, _≤_}
 use native.Mathlib.Omega.{arith}
 use lib.ListN.{length, set}
 use Rattle.std.proofs.shelf.Lists.{getD-set-same, getD-set-other, length-set}
+use Rattle.std.specs.declared.option.Option.the-variants.{Some}
 use Rattle.sheet.specs.Code.{Code, stop, work, literal, choose, repeat, sizeOf}
 use Rattle.sheet.specs.Spans.{lineAt, Spans, endOf, pastOf}
 use Rattle.sheet.specs.declared.lines.Line.{Line}
-use Rattle.sheet.specs.declared.lines.Line.the-variants.{Work, Literal, If, Loop}
+use Rattle.sheet.specs.declared.lines.Line.the-variants.{Work, Literal, If, Else, End, Loop}
 use Rattle.sheet.proofs.Heads.{spans-size, spans-none, at-work, at-literal, at-if, at-loop}
 use Rattle.onepath.specs.Cover.{loopCovered, levelIn, loopsIn}
+use Rattle.onepath.specs.Plain.{plainStep}
 use Rattle.onepath.specs.Own.{ifHead, ifMiddle, loopHead, loopTest, loopBack}
 use Rattle.onepath.specs.Holds.{stepAt, Holds, LoopEnd, Converted}
 use Rattle.onepath.specs.declared.steps.Step.{Step}
-use Rattle.onepath.specs.declared.steps.Step.the-variants.{Work as Act, Literal as Put, Close}
+use Rattle.onepath.specs.declared.steps.Step.the-variants.{Close}
 use Rattle.onepath.proofs.Kept.{Kept, holds-kept}
-use Rattle.onepath.proofs.Parts.{Parts, holds-follow}
+use Rattle.onepath.proofs.Parts.{Parts, never, holds-follow}
 
 -- a write at i, read there and elsewhere
 wrote : (ts : List Step) (i : ℕ) (s : Step) → i < length ts → stepAt (set ts i s) i ≡ s
@@ -62,37 +64,33 @@ module _ (cov : ℕ → Bool) (xs : List Line) (k d : ℕ) where
             subst (λ y. Holds cov vs k d i at r y) (sym (v .is)) (holds-follow cov vs k d i at m r (v .one) (v .rest) h₁ h₂);
       }
 
-  -- a step s for the line at i
-  plain : (i : ℕ) (ts : List Step) (at : ℕ) (s : Step) → at < length ts →
-      ((c : Code) → Spans xs i (i + 1) c → stepAt (set ts at s) at ≡ s → Holds cov (set ts at s) k d i at (at + 1) c) →
+  holds-plain : (us : List Step) (i at : ℕ) (s : Step) (l : Line) → lineAt xs i ≡ l → Some s ≡ plainStep l k → stepAt us at ≡ s →
+      (c : Code) → Spans xs i (i + 1) c → Holds cov us k d i at (at + 1) c
+  holds-plain us i at s (Work t o a b) w e q c h =
+      let v = at-work xs i (i + 1) (omega arith) t o a b w c h in
+      let g = v .is ∙ ap (λ y. work t o a b y) (spans-none xs (i + 1) (i + 1) (v .rest) refl (v .spans)) in
+      subst (λ y. Holds cov us k d i at (at + 1) y) (sym g) ((cc), refl)
+  holds-plain us i at s (Literal t n) w e q c h =
+      let v = at-literal xs i (i + 1) (omega arith) t n w c h in
+      let g = v .is ∙ ap (λ y. literal t n y) (spans-none xs (i + 1) (i + 1) (v .rest) refl (v .spans)) in
+      subst (λ y. Holds cov us k d i at (at + 1) y) (sym g) ((cc), refl)
+  holds-plain us i at s (If x m) w e q c h = never (cc)
+  holds-plain us i at s (Else z) w e q c h = never (cc)
+  holds-plain us i at s (End b) w e q c h = never (cc)
+  holds-plain us i at s (Loop x n z) w e q c h = never (cc)
+
+  -- the step of a plain line
+  pub plain : (i : ℕ) (ts : List Step) (at : ℕ) (s : Step) → at < length ts → Some s ≡ plainStep (lineAt xs i) k →
       Converted cov xs k d i (i + 1) ts (set ts at s) at (at + 1)
-  plain i ts at s l f =
+  plain i ts at s l e =
       record {
         below = λ x w. other ts at s x (omega arith);
         above = λ x w. other ts at s x (omega arith);
         long = length-set ts at s;
         least = omega arith;
         most = omega arith;
-        holds = λ c h. f c h (wrote ts at s l);
+        holds = holds-plain (set ts at s) i at s (lineAt xs i) refl e (wrote ts at s l);
       }
-
-  pub one-work : (i : ℕ) (ts : List Step) (at t o a b : ℕ) → at < length ts → lineAt xs i ≡ Work t o a b →
-      Converted cov xs k d i (i + 1) ts (set ts at (Act k t o a b)) at (at + 1)
-  one-work i ts at t o a b l w =
-      plain i ts at (Act k t o a b) l
-      (λ c h s.
-      let v = at-work xs i (i + 1) (omega arith) t o a b w c h in
-      let e = v .is ∙ ap (λ y. work t o a b y) (spans-none xs (i + 1) (i + 1) (v .rest) refl (v .spans)) in
-      subst (λ y. Holds cov (set ts at (Act k t o a b)) k d i at (at + 1) y) (sym e) (s, refl))
-
-  pub one-literal : (i : ℕ) (ts : List Step) (at t n : ℕ) → at < length ts → lineAt xs i ≡ Literal t n →
-      Converted cov xs k d i (i + 1) ts (set ts at (Put k t n)) at (at + 1)
-  one-literal i ts at t n l w =
-      plain i ts at (Put k t n) l
-      (λ c h s.
-      let v = at-literal xs i (i + 1) (omega arith) t n w c h in
-      let e = v .is ∙ ap (λ y. literal t n y) (spans-none xs (i + 1) (i + 1) (v .rest) refl (v .spans)) in
-      subst (λ y. Holds cov (set ts at (Put k t n)) k d i at (at + 1) y) (sym e) (s, refl))
 
 -- a block's conversion at the level and the number of loops that the rules give
 within : (cov : ℕ → Bool) (xs : List Line) (k k′ d d′ i j : ℕ) (ts us : List Step) (at r : ℕ) → k ≡ k′ → d ≡ d′ →

@@ -1,5 +1,6 @@
 pub mod Names
 pub mod Cover
+pub mod Plain
 pub mod Own
 pub mod Listed
 pub mod Holds

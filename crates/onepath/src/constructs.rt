@@ -21,12 +21,13 @@ impl Around {
         ensures loops { λ r. ⌜ r .loops ≡ self .loops ⌝ }
         ensures most { λ r. ⌜ r .level ≤ self .level + 1 ⌝ }
     {
+        let level = if is_covered {
+            self.level + 1
+        } else {
+            self.level
+        };
         Around {
-            level: if is_covered {
-                self.level + 1
-            } else {
-                self.level
-            },
+            level,
             loops: self.loops,
         }
     }

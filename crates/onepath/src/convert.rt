@@ -7,6 +7,7 @@ ghost use Rattle.sheet.specs.Code.{Code};
 ghost use Rattle.sheet.specs.Spans.{lineAt, Spans, endOf, pastOf};
 ghost use Rattle.onepath.specs.Cover.{coveredIn};
 ghost use Rattle.onepath.specs.Listed.{stepsOf};
+ghost use Rattle.onepath.specs.Plain.{plainStep, Begins};
 ghost use Rattle.onepath.specs.Holds.{Converted};
 use crate::constructs::Around;
 use crate::constructs::if_head;
@@ -19,6 +20,30 @@ use crate::constructs::loop_test;
 use crate::steps::Step;
 use sheet::Line;
 
+// The step of a work or literal line at the given level.
+fn plain_step(line: Line, level: usize) -> Option<Step>
+    ensures { λ r. ⌜ r ≡ plainStep line level ⌝ }
+{
+    match line {
+        Line::Work { target, op, a, b } => Some(Step::Work {
+            level,
+            target,
+            op,
+            a,
+            b,
+        }),
+        Line::Literal { target, number } => Some(Step::Literal {
+            level,
+            target,
+            number,
+        }),
+        Line::If { .. } => None,
+        Line::Else { .. } => None,
+        Line::End { .. } => None,
+        Line::Loop { .. } => None,
+    }
+}
+
 // The line of the `end` that an `else` names.
 fn end_of(line: Line) -> usize
     ensures { λ r. ⌜ r ≡ endOf line ⌝ }
@@ -30,6 +55,22 @@ fn end_of(line: Line) -> usize
         Line::If { .. } => 0,
         Line::End { .. } => 0,
         Line::Loop { .. } => 0,
+    }
+}
+
+// The line after the construct that the line `from` opens.
+fn past_construct(lines: &[Line], from: usize) -> usize
+    requires { ⌜ Begins (now lines) from ⌝ }
+    ensures { λ r. ⌜ r ≡ pastOf (now (lines .entry)) (lineAt (now (lines .entry)) from) ⌝ }
+{
+    let opener = lines[from];
+    match opener {
+        Line::If { partner, .. } => end_of(lines[partner]) + 1,
+        Line::Loop { partner, .. } => partner + 1,
+        Line::Work { .. } => 0,
+        Line::Literal { .. } => 0,
+        Line::Else { .. } => 0,
+        Line::End { .. } => 0,
     }
 }
 
@@ -53,40 +94,14 @@ fn convert_block(
     let mut i = from;
     let mut n = at;
     while i < to {
-        let line = lines[i];
-        match line {
-            Line::Work { target, op, a, b } => {
-                steps[n] = Step::Work {
-                    level: around.level,
-                    target,
-                    op,
-                    a,
-                    b,
-                };
-                n += 1;
-                i += 1;
-            }
-            Line::Literal { target, number } => {
-                steps[n] = Step::Literal {
-                    level: around.level,
-                    target,
-                    number,
-                };
-                n += 1;
-                i += 1;
-            }
-            Line::If { partner, .. } => {
-                let next_line = end_of(lines[partner]) + 1;
-                n = convert_construct(lines, i, next_line, covered, around, steps, n);
-                i = next_line;
-            }
-            Line::Loop { partner, .. } => {
-                let next_line = partner + 1;
-                n = convert_construct(lines, i, next_line, covered, around, steps, n);
-                i = next_line;
-            }
-            Line::Else { .. } => unreachable(),
-            Line::End { .. } => unreachable(),
+        if let Some(step) = plain_step(lines[i], around.level) {
+            steps[n] = step;
+            n += 1;
+            i += 1;
+        } else {
+            let next_line = past_construct(lines, i);
+            n = convert_construct(lines, i, next_line, covered, around, steps, n);
+            i = next_line;
         }
     }
     n
@@ -126,20 +141,14 @@ fn convert_construct(
             let is_covered = is_loop_covered(covered, around.level, cell);
             let inner = around.in_loop(is_covered);
             let mid = convert_block(lines, from + 1, to - 1, covered, inner, steps, at + 2);
-            steps[at] = loop_head(is_covered, inner.level, around.loops);
-            steps[at + 1] = loop_test(
-                is_covered,
-                inner.level,
-                around.loops,
-                cell,
-                bound,
-                mid + 1,
-                from,
-            );
-            steps[mid] = loop_back(is_covered, inner.level, bound, at + 1);
+            let level = inner.level;
+            let counter = around.loops;
+            steps[at] = loop_head(is_covered, level, counter);
+            steps[at + 1] = loop_test(is_covered, level, counter, cell, bound, mid + 1, from);
+            steps[mid] = loop_back(is_covered, level, bound, at + 1);
             if is_covered {
                 steps[mid + 1] = Step::Close {
-                    level: inner.level,
+                    level,
                     cell,
                     line: from,
                 };
@@ -170,15 +179,8 @@ pub(crate) fn convert_lines(
     ensures number { λ r. ⌜ ((c : Code) → Spans (now (lines .entry)) 0 count c → r ≡ length (stepsOf (coveredIn (now (covered .entry))) 0 0 0 0 c)) ⌝ }
     ensures most { λ r. ⌜ r ≤ 2 * count ⌝ }
 {
-    convert_block(
-        lines,
-        0,
-        count,
-        covered,
-        Around { level: 0, loops: 0 },
-        steps,
-        0,
-    )
+    let around = Around { level: 0, loops: 0 };
+    convert_block(lines, 0, count, covered, around, steps, 0)
 }
 
 #[cfg(test)]

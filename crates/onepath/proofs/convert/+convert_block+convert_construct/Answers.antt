@@ -5,17 +5,17 @@ use borrow.Author.Needs.{needs}
 use lib.ListN.{length, set}
 use Rattle.std.proofs.shelf.Lists.{length-set}
 use Rattle.sheet.specs.Spans.{lineAt, Spans, endOf, pastOf}
-use Rattle.sheet.proofs.Heads.{at-if, at-loop, not-else, not-end}
+use Rattle.sheet.proofs.Heads.{at-if, at-loop}
 use Rattle.onepath.specs.Cover.{coveredIn}
-use Rattle.onepath.proofs.Parts.{part-work, part-literal, part-if, part-loop}
-use Rattle.onepath.proofs.Arms.{none, joined, one-work, one-literal, whole-if, whole-covered, whole-open}
+use Rattle.onepath.proofs.Parts.{part-plain, part-construct}
+use Rattle.onepath.proofs.Arms.{none, joined, plain, whole-if, whole-covered, whole-open}
 use Rattle.onepath.proofs.convert.+convert_block+convert_construct.Needs as need
 
 -- the block
 
-pub convert-block-loop-i-again-in-Work : need.convert-block-loop-i-again-in-Work
-convert-block-loop-i-again-in-Work t c =
-    let parts = part-work (c .args .lines .now) (c .loop-i .i) (c .args .to) (omega arith) _ _ _ _ (c .in-Work .is) in
+pub convert-block-loop-i-again-in-Some : need.convert-block-loop-i-again-in-Some
+convert-block-loop-i-again-in-Some t c =
+    let parts = part-plain (c .args .lines .now) (c .loop-i .i) (c .args .to) (omega arith) (c .args .around .level) (c .in-Some .step) _ refl (c .in-Some .ensures tt) in
     let v = parts (c .loop-i .inv .3 .0) (c .loop-i .inv .3 .1) in (
       omega arith,
       omega arith,
@@ -23,122 +23,35 @@ convert-block-loop-i-again-in-Work t c =
       (v .rest, v .spans-rest),
       λ us r d. c .loop-i .inv .4 us r
           (joined _ (c .args .lines .now) (c .args .around .level) (c .args .around .loops) (c .loop-i .i) (c .loop-i .i + 1) (c .args .to) (c .loop-i .steps) _ us (c .loop-i .n) _ r (omega arith) (omega arith) parts
-          (one-work _ _ _ _ _ _ _ _ _ _ _ (omega arith) (c .in-Work .is)) d),
+          (plain _ _ _ _ _ _ _ _ (omega arith) (c .in-Some .ensures tt)) d),
     )
-
-pub convert-block-loop-i-again-in-Literal : need.convert-block-loop-i-again-in-Literal
-convert-block-loop-i-again-in-Literal t c =
-    let parts = part-literal (c .args .lines .now) (c .loop-i .i) (c .args .to) (omega arith) _ _ (c .in-Literal .is) in
-    let v = parts (c .loop-i .inv .3 .0) (c .loop-i .inv .3 .1) in (
-      omega arith,
-      omega arith,
-      simp length-set (omega arith),
-      (v .rest, v .spans-rest),
-      λ us r d. c .loop-i .inv .4 us r
-          (joined _ (c .args .lines .now) (c .args .around .level) (c .args .around .loops) (c .loop-i .i) (c .loop-i .i + 1) (c .args .to) (c .loop-i .steps) _ us (c .loop-i .n) _ r (omega arith) (omega arith) parts
-          (one-literal _ _ _ _ _ _ _ _ _ (omega arith) (c .in-Literal .is)) d),
-    )
-
-pub convert-block-offset-lines-partner : need.convert-block-offset-lines-partner
-convert-block-offset-lines-partner t c =
-    let v = at-if (c .args .lines .now) (c .loop-i .i) (c .args .to) (omega arith) _ _ (c .in-If .is) (c .loop-i .inv .3 .0) (c .loop-i .inv .3 .1) in
-    let l : c .in-If .partner < length (c .args .lines .now) = omega (arith, v .le-second, v .le-rest) in
-    search needs
-
-pub convert-block-index-lines-partner : need.convert-block-index-lines-partner
-convert-block-index-lines-partner t c =
-    let v = at-if (c .args .lines .now) (c .loop-i .i) (c .args .to) (omega arith) _ _ (c .in-If .is) (c .loop-i .inv .3 .0) (c .loop-i .inv .3 .1) in
-    omega (arith, v .le-second, v .le-rest)
-
-pub convert-block-add-next-line : need.convert-block-add-next-line
-convert-block-add-next-line t c =
-    let v = at-if (c .args .lines .now) (c .loop-i .i) (c .args .to) (omega arith) _ _ (c .in-If .is) (c .loop-i .inv .3 .0) (c .loop-i .inv .3 .1) in
-    let e : c .end-of-next-line .result ≡ v .z = c .end-of-next-line .ensures ∙ ap endOf (v .mid) in
-    let l : c .end-of-next-line .result < length (c .args .lines .now) = omega (arith, e, v .le-rest) in
-    search needs
 
 pub convert-block-convert-construct-n-requires : need.convert-block-convert-construct-n-requires
 convert-block-convert-construct-n-requires t c κs =
-    let v = at-if (c .args .lines .now) (c .loop-i .i) (c .args .to) (omega arith) _ _ (c .in-If .is) (c .loop-i .inv .3 .0) (c .loop-i .inv .3 .1) in
-    let p = part-if (c .args .lines .now) (c .loop-i .i) (c .args .to) (omega arith) _ _ _ (c .in-If .is) (c .end-of-next-line .ensures) (c .loop-i .inv .3 .0) (c .loop-i .inv .3 .1) in
-    let e : c .end-of-next-line .result ≡ v .z = c .end-of-next-line .ensures ∙ ap endOf (v .mid) in (
-      omega (arith, c .measured, e, v .le-first, v .le-second, v .le-rest),
-      (
-        (p .one, p .spans-one),
-        (
-          ap (λ y. y + 1) (c .end-of-next-line .ensures) ∙ sym (ap (pastOf (c .args .lines .now)) (c .in-If .is)),
-          (omega (arith, e, v .le-first, v .le-second), (omega (arith, e, v .le-rest), (omega (arith, e, v .le-first, v .le-second, v .le-rest), (omega arith, omega arith)))),
-        ),
-      ),
-    )
-
-pub convert-block-loop-i-less-in-If : need.convert-block-loop-i-less-in-If
-convert-block-loop-i-less-in-If t c =
-    let v = at-if (c .args .lines .now) (c .loop-i .i) (c .args .to) (omega arith) _ _ (c .in-If .is) (c .loop-i .inv .3 .0) (c .loop-i .inv .3 .1) in
-    let e : c .end-of-next-line .result ≡ v .z = c .end-of-next-line .ensures ∙ ap endOf (v .mid) in
-    omega (arith, e, v .le-first, v .le-second, v .le-rest)
-
-pub convert-block-loop-i-again-in-If : need.convert-block-loop-i-again-in-If
-convert-block-loop-i-again-in-If t c =
-    let v = at-if (c .args .lines .now) (c .loop-i .i) (c .args .to) (omega arith) _ _ (c .in-If .is) (c .loop-i .inv .3 .0) (c .loop-i .inv .3 .1) in
-    let e : c .end-of-next-line .result ≡ v .z = c .end-of-next-line .ensures ∙ ap endOf (v .mid) in
-    let parts = part-if (c .args .lines .now) (c .loop-i .i) (c .args .to) (omega arith) _ _ _ (c .in-If .is) (c .end-of-next-line .ensures) in
-    let d₁ = c .convert-construct-n .ensures in
-    let w = parts (c .loop-i .inv .3 .0) (c .loop-i .inv .3 .1) in (
-      omega (arith, e, v .le-first, v .le-second),
-      omega (arith, e, v .le-rest),
-      omega (arith, e, d₁ .long, d₁ .most, v .le-first, v .le-second, v .le-rest),
-      (w .rest, w .spans-rest),
-      λ us r d. c .loop-i .inv .4 us r
-          (joined _ (c .args .lines .now) (c .args .around .level) (c .args .around .loops) (c .loop-i .i) (c .end-of-next-line .result + 1) (c .args .to) (c .loop-i .steps) _ us (c .loop-i .n) _ r
-          (omega (arith, e, v .le-first, v .le-second)) (omega (arith, e, v .le-rest)) parts d₁ d),
-    )
-
-pub convert-block-add-next-line-in-Loop : need.convert-block-add-next-line-in-Loop
-convert-block-add-next-line-in-Loop t c =
-    let v = at-loop (c .args .lines .now) (c .loop-i .i) (c .args .to) (omega arith) _ _ _ (c .in-Loop .is) (c .loop-i .inv .3 .0) (c .loop-i .inv .3 .1) in
-    let l : c .in-Loop .partner < length (c .args .lines .now) = omega (arith, v .le-rest) in
-    search needs
-
-pub convert-block-convert-construct-n-requires-in-Loop :
-    need.convert-block-convert-construct-n-requires-in-Loop
-convert-block-convert-construct-n-requires-in-Loop t c κs =
-    let v = at-loop (c .args .lines .now) (c .loop-i .i) (c .args .to) (omega arith) _ _ _ (c .in-Loop .is) (c .loop-i .inv .3 .0) (c .loop-i .inv .3 .1) in
-    let p = part-loop (c .args .lines .now) (c .loop-i .i) (c .args .to) (omega arith) _ _ _ (c .in-Loop .is) (c .loop-i .inv .3 .0) (c .loop-i .inv .3 .1) in (
-      omega (arith, c .measured, v .le-first, v .le-rest),
-      (
-        (p .one, p .spans-one),
-        (
-          sym (ap (pastOf (c .args .lines .now)) (c .in-Loop .is)),
-          (omega (arith, v .le-first), (omega (arith, v .le-rest), (omega (arith, v .le-first, v .le-rest), (omega arith, omega arith)))),
-        ),
-      ),
-    )
+    let v = part-construct (c .args .lines .now) (c .loop-i .i) (c .args .to) (omega arith) (c .args .around .level) (c .past-construct-next-line .result) _ refl (c .past-construct-next-line .ensures) (c .in-rest .ensures tt) (c .loop-i .inv .3 .0) (c .loop-i .inv .3 .1) in
+    let m = v .more in
+    let w = v .within in
+    (omega (arith, c .measured), ((v .one, v .spans-one), (c .past-construct-next-line .ensures, (m, (omega arith, (omega arith, (omega arith, omega arith)))))))
 
 pub convert-block-loop-i-less : need.convert-block-loop-i-less
 convert-block-loop-i-less t c =
-    let v = at-loop (c .args .lines .now) (c .loop-i .i) (c .args .to) (omega arith) _ _ _ (c .in-Loop .is) (c .loop-i .inv .3 .0) (c .loop-i .inv .3 .1) in
-    omega (arith, v .le-first, v .le-rest)
+    let v = part-construct (c .args .lines .now) (c .loop-i .i) (c .args .to) (omega arith) (c .args .around .level) (c .past-construct-next-line .result) _ refl (c .past-construct-next-line .ensures) (c .in-rest .ensures tt) (c .loop-i .inv .3 .0) (c .loop-i .inv .3 .1) in
+    omega (arith, v .more, v .within)
 
 pub convert-block-loop-i-again : need.convert-block-loop-i-again
 convert-block-loop-i-again t c =
-    let v = at-loop (c .args .lines .now) (c .loop-i .i) (c .args .to) (omega arith) _ _ _ (c .in-Loop .is) (c .loop-i .inv .3 .0) (c .loop-i .inv .3 .1) in
-    let d₁ = c .convert-construct-n-in-Loop .ensures in (
-      omega (arith, v .le-first),
-      omega (arith, v .le-rest),
-      omega (arith, d₁ .long, d₁ .most, v .le-first, v .le-rest),
+    let parts = part-construct (c .args .lines .now) (c .loop-i .i) (c .args .to) (omega arith) (c .args .around .level) (c .past-construct-next-line .result) _ refl (c .past-construct-next-line .ensures) (c .in-rest .ensures tt) in
+    let v = parts (c .loop-i .inv .3 .0) (c .loop-i .inv .3 .1) in
+    let m = v .more in
+    let w = v .within in
+    let d₁ = c .convert-construct-n .ensures in (
+      omega arith,
+      w,
+      omega (arith, d₁ .long, d₁ .most),
       (v .rest, v .spans-rest),
       λ us r d. c .loop-i .inv .4 us r
-          (joined _ (c .args .lines .now) (c .args .around .level) (c .args .around .loops) (c .loop-i .i) (c .in-Loop .partner + 1) (c .args .to) (c .loop-i .steps) _ us (c .loop-i .n) _ r
-          (omega (arith, v .le-first)) (omega (arith, v .le-rest))
-          (part-loop (c .args .lines .now) (c .loop-i .i) (c .args .to) (omega arith) _ _ _ (c .in-Loop .is)) d₁ d),
+          (joined _ (c .args .lines .now) (c .args .around .level) (c .args .around .loops) (c .loop-i .i) (c .past-construct-next-line .result) (c .args .to) (c .loop-i .steps) _ us (c .loop-i .n) _ r (omega arith) w parts d₁ d),
     )
-
-pub convert-block-unreachable-requires : need.convert-block-unreachable-requires
-convert-block-unreachable-requires t c κs = not-else (c .args .lines .now) (c .loop-i .i) (c .args .to) (omega arith) _ (c .in-Else .is) (c .loop-i .inv .3 .0) (c .loop-i .inv .3 .1)
-
-pub convert-block-unreachable-requires-in-End : need.convert-block-unreachable-requires-in-End
-convert-block-unreachable-requires-in-End t c κs = not-end (c .args .lines .now) (c .loop-i .i) (c .args .to) (omega arith) _ (c .in-End .is) (c .loop-i .inv .3 .0) (c .loop-i .inv .3 .1)
 
 pub convert-block-returns : need.convert-block-returns
 convert-block-returns t c = c .loop-i .inv .4 _ _ (none _ _ _ _ _ _ _ _ (omega arith))
