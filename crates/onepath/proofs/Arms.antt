@@ -16,6 +16,7 @@ use Rattle.sheet.proofs.Heads.{spans-size, spans-none, at-work, at-literal, at-
 use Rattle.onepath.specs.Cover.{loopCovered, levelIn, loopsIn}
 use Rattle.onepath.specs.Plain.{plainStep}
 use Rattle.onepath.specs.Own.{ifHead, ifMiddle, loopHead, loopTest, loopBack}
+use Rattle.onepath.specs.Put.{putIf, putEnd, pastEnd, putLoop}
 use Rattle.onepath.specs.Holds.{stepAt, Holds, LoopEnd, Converted}
 use Rattle.onepath.specs.declared.steps.Step.{Step}
 use Rattle.onepath.specs.declared.steps.Step.the-variants.{Close}
@@ -98,18 +99,15 @@ within : (cov : ℕ → Bool) (xs : List Line) (k k′ d d′ i j : ℕ) (ts us 
 within cov xs k k′ d d′ i j ts us at r e f h =
     subst (λ y. Converted cov xs k′ y i j ts us at r) f (subst (λ y. Converted cov xs y d i j ts us at r) e h)
 
--- an if: both blocks are converted, and then its two steps are written
-pub whole-if : (cov : ℕ → Bool) (xs : List Line) (k d i j : ℕ) (ts us vs : List Step) (at m r x e : ℕ) (b : Bool) (own loops : ℕ) (s₁ s₂ : Step) → i < j →
+-- an if: both blocks are converted, and then its own steps are written
+if-put : (cov : ℕ → Bool) (xs : List Line) (k d i j : ℕ) (ts us vs : List Step) (at m r x e : ℕ) → i < j →
     lineAt xs i ≡ If x e → j ≡ pastOf xs (lineAt xs i) → at + 2 * (j - i) ≤ length ts → i + 1 ≤ e → e + 1 ≤ j - 1 →
-    b ≡ cov x → own ≡ levelIn b k → loops ≡ d →
-    Converted cov xs own loops (i + 1) e ts us (at + 1) m → Converted cov xs own loops (e + 1) (j - 1) us vs (m + 1) r →
-    s₁ ≡ ifHead b own x (m + 1) → s₂ ≡ ifMiddle b own r →
-    Converted cov xs k d i j ts (set (set vs at s₁) m s₂) at r
-whole-if cov xs k d i j ts us vs at m r x e b own loops s₁ s₂ lj w ej room l₁ l₂ eb eo ed c₁ c₂ e₁ e₂ =
-    let o = levelIn (cov x) k in
-    let eo′ : own ≡ o = eo ∙ ap (λ y. levelIn y k) eb in
-    let d₁ = within cov xs own o loops d (i + 1) e ts us (at + 1) m eo′ ed c₁ in
-    let d₂ = within cov xs own o loops d (e + 1) (j - 1) us vs (m + 1) r eo′ ed c₂ in
+    Converted cov xs (levelIn (cov x) k) d (i + 1) e ts us (at + 1) m → Converted cov xs (levelIn (cov x) k) d (e + 1) (j - 1) us vs (m + 1) r →
+    Converted cov xs k d i j ts (putIf (cov x) (levelIn (cov x) k) x at m r vs) at r
+if-put cov xs k d i j ts us vs at m r x e lj w ej room l₁ l₂ d₁ d₂ =
+    let own = levelIn (cov x) k in
+    let s₁ = ifHead (cov x) own x (m + 1) in
+    let s₂ = ifMiddle (cov x) own r in
     let ws = set vs at s₁ in
     let zs = set ws m s₂ in
     let lv : length vs ≡ length ts = d₂ .long ∙ d₁ .long in
@@ -131,87 +129,114 @@ whole-if cov xs k d i j ts us vs at m r x e b own loops s₁ s₂ lj w ej room l
           let zj : v .z ≡ j - 1 = omega (arith, zz) in
           let h₁ = d₁ .holds (v .first) (v .spans-first) in
           let h₂ = d₂ .holds (v .second) (subst (λ y. Spans xs (e + 1) y (v .second)) zj (v .spans-second)) in
-          let h₂′ = subst (λ y. Holds cov vs o d (y + 1) (m + 1) r (v .second)) (spans-size xs (i + 1) e (v .first) (v .spans-first)) h₂ in
+          let h₃ = subst (λ y. Holds cov vs own d (y + 1) (m + 1) r (v .second)) (spans-size xs (i + 1) e (v .first) (v .spans-first)) h₂ in
           let last : v .rest ≡ stop = spans-none xs (v .z + 1) j (v .rest) zz (v .spans-rest) in
-          let head : s₁ ≡ ifHead (cov x) o x (m + 1) = e₁ ∙ ap (λ y. ifHead y own x (m + 1)) eb ∙ ap (λ y. ifHead (cov x) y x (m + 1)) eo′ in
-          let middle : s₂ ≡ ifMiddle (cov x) o r = e₂ ∙ ap (λ y. ifMiddle y own r) eb ∙ ap (λ y. ifMiddle (cov x) y r) eo′ in
           subst (λ y. Holds cov zs k d i at r y) (sym (v .is ∙ ap (λ y. choose x (v .first) (v .second) y) last)) (
             m,
             r,
-            other ws m s₂ at (omega arith) ∙ wrote vs at s₁ (omega (arith, lv)) ∙ head,
-            holds-kept cov us zs o d (i + 1) (at + 1) m (v .first) (λ y f g. keep y (omega arith) (omega arith) ∙ d₂ .below y (omega arith)) h₁,
-            wrote ws m s₂ (omega (arith, lw)) ∙ middle,
-            holds-kept cov vs zs o d _ (m + 1) r (v .second) (λ y f g. keep y (omega arith) (omega arith)) h₂′,
+            other ws m s₂ at (omega arith) ∙ wrote vs at s₁ (omega (arith, lv)),
+            holds-kept cov us zs own d (i + 1) (at + 1) m (v .first) (λ y f g. keep y (omega arith) (omega arith) ∙ d₂ .below y (omega arith)) h₁,
+            wrote ws m s₂ (omega (arith, lw)),
+            holds-kept cov vs zs own d _ (m + 1) r (v .second) (λ y f g. keep y (omega arith) (omega arith)) h₃,
             refl,
           );
     }
 
--- a loop: its block is converted, and then its steps are written
-module _ (cov : ℕ → Bool) (xs : List Line) (k d i j : ℕ) (ts us : List Step) (at m x n e : ℕ) (b : Bool) (own loops : ℕ) (s₁ s₂ s₃ : Step) (lj : i < j)
-    (w : lineAt xs i ≡ Loop x n e) (ej : j ≡ pastOf xs (lineAt xs i)) (room : at + 2 * (j - i) ≤ length ts) (l₁ : i + 1 ≤ j - 1)
-    (eb : b ≡ loopCovered cov k x) (eo : own ≡ levelIn b k) (ed : loops ≡ loopsIn b d)
-    (c₁ : Converted cov xs own loops (i + 1) (j - 1) ts us (at + 2) m)
-    (e₁ : s₁ ≡ loopHead b own d) (e₂ : s₂ ≡ loopTest b own d x n (m + 1) i) (e₃ : s₃ ≡ loopBack b own n (at + 1)) where
-  -- vs is the table with the three steps, and perhaps one after them
-  looped : (vs : List Step) (r : ℕ) → Kept (set (set (set us at s₁) (at + 1) s₂) m s₃) vs 0 (m + 1) →
-      ((y : ℕ) → r ≤ y → stepAt vs y ≡ stepAt (set (set (set us at s₁) (at + 1) s₂) m s₃) y) → length vs ≡ length us → m < r → r ≤ m + 2 →
-      LoopEnd b vs own x i (m + 1) r → Converted cov xs k d i j ts vs at r
-  looped vs r kv av lv lr lr′ en =
-      let b′ = loopCovered cov k x in
-      let o = levelIn b′ k in
-      let d′ = loopsIn b′ d in
-      let eo′ : own ≡ o = eo ∙ ap (λ y. levelIn y k) eb in
-      let d₁ = within cov xs own o loops d′ (i + 1) (j - 1) ts us (at + 2) m eo′ (ed ∙ ap (λ y. loopsIn y d) eb) c₁ in
-      let v₁ = set us at s₁ in
-      let v₂ = set v₁ (at + 1) s₂ in
-      let v₃ = set v₂ m s₃ in
-      let n₁ : length v₁ ≡ length ts = length-set us at s₁ ∙ d₁ .long in
-      let n₂ : length v₂ ≡ length ts = length-set v₁ (at + 1) s₂ ∙ n₁ in
-      let a₁ = d₁ .least in
-      let b₁ = d₁ .most in
-      let dl = d₁ .long in
-      let keep : (y : ℕ) → y ≢ m → y ≢ at → y ≢ at + 1 → stepAt v₃ y ≡ stepAt us y = λ y p q u. other v₂ m s₃ y p ∙ other v₁ (at + 1) s₂ y u ∙ other us at s₁ y q in
-      let jj : j ≡ e + 1 = ej ∙ ap (pastOf xs) w in
-      record {
-        below = λ y l. kv y (omega arith) (omega arith) ∙ keep y (omega arith) (omega arith) (omega arith) ∙ d₁ .below y (omega arith);
-        above = λ y l. av y l ∙ keep y (omega arith) (omega arith) (omega arith) ∙ d₁ .above y (omega arith);
-        long = lv ∙ d₁ .long;
-        least = omega arith;
-        most = omega arith;
-        holds = λ c h.
-            let v = at-loop xs i j (omega arith) x n e w c h in
-            let zj : e ≡ j - 1 = omega arith in
-            let h₁ = d₁ .holds (v .first) (subst (λ y. Spans xs (i + 1) y (v .first)) zj (v .spans-first)) in
-            let last : v .rest ≡ stop = spans-none xs (e + 1) j (v .rest) (sym jj) (v .spans-rest) in
-            let head : s₁ ≡ loopHead b′ o d = e₁ ∙ ap (λ y. loopHead y own d) eb ∙ ap (λ y. loopHead b′ y d) eo′ in
-            let test : s₂ ≡ loopTest b′ o d x n (m + 1) i = e₂ ∙ ap (λ y. loopTest y own d x n (m + 1) i) eb ∙ ap (λ y. loopTest b′ y d x n (m + 1) i) eo′ in
-            let back : s₃ ≡ loopBack b′ o n (at + 1) = e₃ ∙ ap (λ y. loopBack y own n (at + 1)) eb ∙ ap (λ y. loopBack b′ y n (at + 1)) eo′ in
-            subst (λ y. Holds cov vs k d i at r y) (sym (v .is ∙ ap (λ y. repeat x n (v .first) y) last)) (
-              m,
-              r,
-              kv at (omega arith) (omega arith) ∙ other v₂ m s₃ at (omega arith) ∙ other v₁ (at + 1) s₂ at (omega arith) ∙ wrote us at s₁ (omega arith) ∙ head,
-              kv (at + 1) (omega arith) (omega arith) ∙ other v₂ m s₃ (at + 1) (omega arith) ∙ wrote v₁ (at + 1) s₂ (omega arith) ∙ test,
-              holds-kept cov us vs o d′ (i + 1) (at + 2) m (v .first) (λ y f g. kv y (omega arith) (omega arith) ∙ keep y (omega arith) (omega arith) (omega arith)) h₁,
-              kv m (omega arith) (omega arith) ∙ wrote v₂ m s₃ (omega arith) ∙ back,
-              subst (λ y. LoopEnd b′ vs y x i (m + 1) r) eo′ (subst (λ y. LoopEnd y vs own x i (m + 1) r) eb en),
-              refl,
-            );
-      }
+-- the same, as the code has it: b is whether the if is covered
+pub whole-if : (cov : ℕ → Bool) (xs : List Line) (k d i j : ℕ) (ts us vs zs : List Step) (at m r x e : ℕ) (b : Bool) (own loops : ℕ) → i < j →
+    lineAt xs i ≡ If x e → j ≡ pastOf xs (lineAt xs i) → at + 2 * (j - i) ≤ length ts → i + 1 ≤ e → e + 1 ≤ j - 1 →
+    b ≡ cov x → own ≡ levelIn b k → loops ≡ d →
+    Converted cov xs own loops (i + 1) e ts us (at + 1) m → Converted cov xs own loops (e + 1) (j - 1) us vs (m + 1) r →
+    zs ≡ putIf b own x at m r vs → Converted cov xs k d i j ts zs at r
+whole-if cov xs k d i j ts us vs zs at m r x e b own loops lj w ej room l₁ l₂ eb eo ed c₁ c₂ ez =
+    let eo′ : own ≡ levelIn (cov x) k = eo ∙ ap (λ y. levelIn y k) eb in
+    let d₁ = within cov xs own _ loops d (i + 1) e ts us (at + 1) m eo′ ed c₁ in
+    let d₂ = within cov xs own _ loops d (e + 1) (j - 1) us vs (m + 1) r eo′ ed c₂ in
+    let put = ez ∙ ap (λ y. putIf y own x at m r vs) eb ∙ ap (λ y. putIf (cov x) y x at m r vs) eo′ in
+    subst (λ y. Converted cov xs k d i j ts y at r) (sym put) (if-put cov xs k d i j ts us vs at m r x e lj w ej room l₁ l₂ d₁ d₂)
 
-  three : length (set (set (set us at s₁) (at + 1) s₂) m s₃) ≡ length us
-  three = length-set (set (set us at s₁) (at + 1) s₂) m s₃ ∙ length-set (set us at s₁) (at + 1) s₂ ∙ length-set us at s₁
+-- writing a covered loop's last step leaves the other steps
+pub record Ended (b : Bool) (ts us : List Step) (k x l m j : ℕ) : Type 0 where
+  pub below : Kept ts us 0 m
+  pub above : (y : ℕ) → j ≤ y → stepAt us y ≡ stepAt ts y
+  pub long : length us ≡ length ts
+  pub least : m ≤ j
+  pub most : j ≤ m + 1
+  pub end : LoopEnd b us k x l m j
 
-  pub whole-covered : b ≡ true → m + 1 < length us → Converted cov xs k d i j ts (set (set (set (set us at s₁) (at + 1) s₂) m s₃) (m + 1) (Close own x i)) at (m + 2)
-  whole-covered t lm =
-      let v₃ = set (set (set us at s₁) (at + 1) s₂) m s₃ in
-      let v₄ = set v₃ (m + 1) (Close own x i) in
-      let n₃ : length v₃ ≡ length us = three in
-      looped v₄ (m + 2) (λ y f g. other v₃ (m + 1) (Close own x i) y (omega arith)) (λ y f. other v₃ (m + 1) (Close own x i) y (omega arith))
-      (length-set v₃ (m + 1) (Close own x i) ∙ n₃) (omega arith) (omega arith)
-      (subst (λ y. LoopEnd y v₄ own x i (m + 1) (m + 2)) (sym t) (wrote v₃ (m + 1) (Close own x i) (omega (arith, n₃)), omega arith))
+end-put : (b : Bool) (ts : List Step) (k x l m : ℕ) → m < length ts → Ended b ts (putEnd b k x l m ts) k x l m (pastEnd b m)
+end-put true ts k x l m lt =
+    record {
+      below = λ y f g. other ts m (Close k x l) y (omega arith);
+      above = λ y f. other ts m (Close k x l) y (omega arith);
+      long = length-set ts m (Close k x l);
+      least = omega arith;
+      most = omega arith;
+      end = (wrote ts m (Close k x l) lt, refl);
+    }
+end-put false ts k x l m lt = record { below = λ y f g. refl; above = λ y f. refl; long = refl; least = omega arith; most = omega arith; end = refl }
 
-  pub whole-open : b ≡ false → Converted cov xs k d i j ts (set (set (set us at s₁) (at + 1) s₂) m s₃) at (m + 1)
-  whole-open f =
-      let v₃ = set (set (set us at s₁) (at + 1) s₂) m s₃ in
-      looped v₃ (m + 1) (λ y p q. refl) (λ y p. refl) three (omega arith) (omega arith)
-      (subst (λ y. LoopEnd y v₃ own x i (m + 1) (m + 1)) (sym f) refl)
+-- a loop: its block is converted, and then its own steps are written
+loop-put : (cov : ℕ → Bool) (xs : List Line) (k d i j : ℕ) (ts us : List Step) (at m x n e : ℕ) → i < j →
+    lineAt xs i ≡ Loop x n e → j ≡ pastOf xs (lineAt xs i) → at + 2 * (j - i) ≤ length ts → i + 1 ≤ j - 1 →
+    Converted cov xs (levelIn (loopCovered cov k x) k) (loopsIn (loopCovered cov k x) d) (i + 1) (j - 1) ts us (at + 2) m →
+    Converted cov xs k d i j ts (putLoop (loopCovered cov k x) (levelIn (loopCovered cov k x) k) d x n i at m us) at (pastEnd (loopCovered cov k x) (m + 1))
+loop-put cov xs k d i j ts us at m x n e lj w ej room l₁ d₁ =
+    let b = loopCovered cov k x in
+    let own = levelIn b k in
+    let s₁ = loopHead b own d in
+    let s₂ = loopTest b own d x n (m + 1) i in
+    let s₃ = loopBack b own n (at + 1) in
+    let v₁ = set us at s₁ in
+    let v₂ = set v₁ (at + 1) s₂ in
+    let v₃ = set v₂ m s₃ in
+    let zs = putEnd b own x i (m + 1) v₃ in
+    let r = pastEnd b (m + 1) in
+    let a₁ = d₁ .least in
+    let b₁ = d₁ .most in
+    let n₀ = d₁ .long in
+    let n₁ : length v₁ ≡ length ts = length-set us at s₁ ∙ n₀ in
+    let n₂ : length v₂ ≡ length ts = length-set v₁ (at + 1) s₂ ∙ n₁ in
+    let n₃ : length v₃ ≡ length ts = length-set v₂ m s₃ ∙ n₂ in
+    let en = end-put b v₃ own x i (m + 1) (omega (arith, n₃)) in
+    let a₂ = en .least in
+    let b₂ = en .most in
+    let keep : (y : ℕ) → y ≢ m → y ≢ at → y ≢ at + 1 → stepAt v₃ y ≡ stepAt us y = λ y p q u. other v₂ m s₃ y p ∙ other v₁ (at + 1) s₂ y u ∙ other us at s₁ y q in
+    let jj : j ≡ e + 1 = ej ∙ ap (pastOf xs) w in
+    record {
+      below = λ y l. en .below y (omega arith) (omega arith) ∙ keep y (omega arith) (omega arith) (omega arith) ∙ d₁ .below y (omega arith);
+      above = λ y l. en .above y l ∙ keep y (omega arith) (omega arith) (omega arith) ∙ d₁ .above y (omega arith);
+      long = en .long ∙ n₃;
+      least = omega arith;
+      most = omega arith;
+      holds = λ c h.
+          let v = at-loop xs i j (omega arith) x n e w c h in
+          let zj : e ≡ j - 1 = omega arith in
+          let h₁ = d₁ .holds (v .first) (subst (λ y. Spans xs (i + 1) y (v .first)) zj (v .spans-first)) in
+          let last : v .rest ≡ stop = spans-none xs (e + 1) j (v .rest) (sym jj) (v .spans-rest) in
+          subst (λ y. Holds cov zs k d i at r y) (sym (v .is ∙ ap (λ y. repeat x n (v .first) y) last)) (
+            m,
+            r,
+            en .below at (omega arith) (omega arith) ∙ other v₂ m s₃ at (omega arith) ∙ other v₁ (at + 1) s₂ at (omega arith) ∙ wrote us at s₁ (omega arith),
+            en .below (at + 1) (omega arith) (omega arith) ∙ other v₂ m s₃ (at + 1) (omega arith) ∙ wrote v₁ (at + 1) s₂ (omega arith),
+            holds-kept cov us zs own (loopsIn b d) (i + 1) (at + 2) m (v .first) (λ y f g. en .below y (omega arith) (omega arith) ∙ keep y (omega arith) (omega arith) (omega arith)) h₁,
+            en .below m (omega arith) (omega arith) ∙ wrote v₂ m s₃ (omega arith),
+            en .end,
+            refl,
+          );
+    }
+
+-- the same, as the code has it: b is whether the loop is covered
+pub whole-loop : (cov : ℕ → Bool) (xs : List Line) (k d i j : ℕ) (ts us zs : List Step) (at m r x n e : ℕ) (b : Bool) (own loops : ℕ) → i < j →
+    lineAt xs i ≡ Loop x n e → j ≡ pastOf xs (lineAt xs i) → at + 2 * (j - i) ≤ length ts → i + 1 ≤ j - 1 →
+    b ≡ loopCovered cov k x → own ≡ levelIn b k → loops ≡ loopsIn b d →
+    Converted cov xs own loops (i + 1) (j - 1) ts us (at + 2) m →
+    zs ≡ putLoop b own d x n i at m us → r ≡ pastEnd b (m + 1) → Converted cov xs k d i j ts zs at r
+whole-loop cov xs k d i j ts us zs at m r x n e b own loops lj w ej room l₁ eb eo ed c₁ ez er =
+    let b′ = loopCovered cov k x in
+    let eo′ : own ≡ levelIn b′ k = eo ∙ ap (λ y. levelIn y k) eb in
+    let d₁ = within cov xs own _ loops _ (i + 1) (j - 1) ts us (at + 2) m eo′ (ed ∙ ap (λ y. loopsIn y d) eb) c₁ in
+    let put = ez ∙ ap (λ y. putLoop y own d x n i at m us) eb ∙ ap (λ y. putLoop b′ y d x n i at m us) eo′ in
+    let past = er ∙ ap (λ y. pastEnd y (m + 1)) eb in
+    subst (λ y. Converted cov xs k d i j ts zs at y) (sym past)
+    (subst (λ y. Converted cov xs k d i j ts y at (pastEnd b′ (m + 1))) (sym put) (loop-put cov xs k d i j ts us at m x n e lj w ej room l₁ d₁))

@@ -3,7 +3,8 @@
 ghost use mathlib.Core.Path.{_≡_};
 ghost use Prim.Native.Nat.{_+_, _^_, _<_, _≤_};
 ghost use Rattle.onepath.specs.Cover.{coveredIn, loopCovered, levelIn, loopsIn};
-ghost use Rattle.onepath.specs.Own.{ifHead, ifMiddle, loopHead, loopTest, loopBack};
+ghost use lib.ListN.{length};
+ghost use Rattle.onepath.specs.Put.{putIf, putLoop, pastEnd};
 use crate::steps::Step;
 
 // What stands around a line: how many covered constructs, and how many open loops.
@@ -39,17 +40,13 @@ impl Around {
         ensures loops { λ r. ⌜ r .loops ≡ loopsIn «is_covered» (self .loops) ⌝ }
         ensures most { λ r. ⌜ r .level ≤ self .level + 1 ⌝ ∗ ⌜ r .loops ≤ self .loops + 1 ⌝ }
     {
-        if is_covered {
-            Around {
-                level: self.level + 1,
-                loops: self.loops,
-            }
+        let Around { level, .. } = self.in_if(is_covered);
+        let loops = if is_covered {
+            self.loops
         } else {
-            Around {
-                level: self.level,
-                loops: self.loops + 1,
-            }
-        }
+            self.loops + 1
+        };
+        Around { level, loops }
     }
 }
 
@@ -72,71 +69,84 @@ pub(crate) fn is_loop_covered(covered: &[bool], level: usize, cell: u8) -> bool
     level > 0 || is_cell_covered(covered, cell)
 }
 
-// An if's first step. `to` is where its second block begins.
-pub(crate) fn if_head(is_covered: bool, level: usize, cell: u8, to: usize) -> Step
-    ensures { λ r. ⌜ r ≡ ifHead «is_covered» level cell to ⌝ }
-{
-    if is_covered {
-        Step::Ask { level, cell }
-    } else {
-        Step::Branch { cell, to }
-    }
+// What an if's own steps say. `level` is a covered if's own.
+#[derive(Clone, Copy)]
+pub(crate) struct IfSteps {
+    pub(crate) is_covered: bool,
+    pub(crate) level: usize,
+    pub(crate) cell: u8,
 }
 
-// The step between an if's blocks. `to` is the place after the if.
-pub(crate) fn if_middle(is_covered: bool, level: usize, to: usize) -> Step
-    ensures { λ r. ⌜ r ≡ ifMiddle «is_covered» level to ⌝ }
-{
-    if is_covered {
-        Step::Turn { level }
-    } else {
-        Step::Jump { to }
-    }
-}
-
-// A loop's first step.
-pub(crate) fn loop_head(is_covered: bool, level: usize, counter: usize) -> Step
-    ensures { λ r. ⌜ r ≡ loopHead «is_covered» level counter ⌝ }
-{
-    if is_covered {
-        Step::Setout { level }
-    } else {
-        Step::Enter { counter }
-    }
-}
-
-// The step that begins each pass of a loop. `to` is the place after an open loop, `line` the loop's own line.
-pub(crate) fn loop_test(
-    is_covered: bool,
-    level: usize,
-    counter: usize,
-    cell: u8,
-    bound: u8,
-    to: usize,
-    line: usize,
-) -> Step
-    ensures { λ r. ⌜ r ≡ loopTest «is_covered» level counter cell bound to line ⌝ }
-{
-    if is_covered {
-        Step::Narrow { level, cell }
-    } else {
-        Step::Test {
-            counter,
+impl IfSteps {
+    // Writes them before and between the steps of the if's blocks, at `at` and at `mid`. `next` is the place after
+    // the second block.
+    pub(crate) fn put(self, steps: &mut [Step], at: usize, mid: usize, next: usize)
+        requires { ⌜ at < mid ⌝ ∗ ⌜ mid < length (now steps) ⌝ }
+        ensures { λ _. ⌜ now (steps .exit) ≡ putIf (self .«is_covered») (self .level) (self .cell) at mid next (now (steps .entry)) ⌝ }
+    {
+        let IfSteps {
+            is_covered,
+            level,
             cell,
-            bound,
-            to,
-            line,
+        } = self;
+        if is_covered {
+            steps[at] = Step::Ask { level, cell };
+            steps[mid] = Step::Turn { level };
+        } else {
+            steps[at] = Step::Branch { cell, to: mid + 1 };
+            steps[mid] = Step::Jump { to: next };
         }
     }
 }
 
-// The step that ends each pass of a loop. `to` is the step that begins a pass.
-pub(crate) fn loop_back(is_covered: bool, level: usize, bound: u8, to: usize) -> Step
-    ensures { λ r. ⌜ r ≡ loopBack «is_covered» level bound to ⌝ }
-{
-    if is_covered {
-        Step::Again { level, bound, to }
-    } else {
-        Step::Jump { to }
+// What a loop's own steps say. `level` is a covered loop's own, `counter` an open loop's, `line` the loop's line.
+#[derive(Clone, Copy)]
+pub(crate) struct LoopSteps {
+    pub(crate) is_covered: bool,
+    pub(crate) level: usize,
+    pub(crate) counter: usize,
+    pub(crate) cell: u8,
+    pub(crate) bound: u8,
+    pub(crate) line: usize,
+}
+
+impl LoopSteps {
+    // Writes them before and after the steps of the loop's block, from `at` and from `mid` on. Returns the place
+    // after the loop.
+    pub(crate) fn put(self, steps: &mut [Step], at: usize, mid: usize) -> usize
+        requires { ⌜ at + 1 < mid ⌝ ∗ ⌜ mid + 1 < length (now steps) ⌝ }
+        ensures steps { λ _. ⌜ now (steps .exit) ≡ putLoop (self .«is_covered») (self .level) (self .counter) (self .cell) (self .bound) (self .line) at mid (now (steps .entry)) ⌝ }
+        ensures next { λ r. ⌜ r ≡ pastEnd (self .«is_covered») (mid + 1) ⌝ }
+    {
+        let LoopSteps {
+            is_covered,
+            level,
+            counter,
+            cell,
+            bound,
+            line,
+        } = self;
+        if is_covered {
+            steps[at] = Step::Setout { level };
+            steps[at + 1] = Step::Narrow { level, cell };
+            steps[mid] = Step::Again {
+                level,
+                bound,
+                to: at + 1,
+            };
+            steps[mid + 1] = Step::Close { level, cell, line };
+            mid + 2
+        } else {
+            steps[at] = Step::Enter { counter };
+            steps[at + 1] = Step::Test {
+                counter,
+                cell,
+                bound,
+                to: mid + 1,
+                line,
+            };
+            steps[mid] = Step::Jump { to: at + 1 };
+            mid + 1
+        }
     }
 }

@@ -10,13 +10,10 @@ ghost use Rattle.onepath.specs.Listed.{stepsOf};
 ghost use Rattle.onepath.specs.Plain.{plainStep, Begins};
 ghost use Rattle.onepath.specs.Holds.{Converted};
 use crate::constructs::Around;
-use crate::constructs::if_head;
-use crate::constructs::if_middle;
+use crate::constructs::IfSteps;
+use crate::constructs::LoopSteps;
 use crate::constructs::is_cell_covered;
 use crate::constructs::is_loop_covered;
-use crate::constructs::loop_back;
-use crate::constructs::loop_head;
-use crate::constructs::loop_test;
 use crate::steps::Step;
 use sheet::Line;
 
@@ -133,29 +130,27 @@ fn convert_construct(
             let inner = around.in_if(is_covered);
             let mid = convert_block(lines, from + 1, partner, covered, inner, steps, at + 1);
             let next = convert_block(lines, partner + 1, to - 1, covered, inner, steps, mid + 1);
-            steps[at] = if_head(is_covered, inner.level, cell, mid + 1);
-            steps[mid] = if_middle(is_covered, inner.level, next);
+            let own = IfSteps {
+                is_covered,
+                level: inner.level,
+                cell,
+            };
+            own.put(steps, at, mid, next);
             next
         }
         Line::Loop { cell, bound, .. } => {
             let is_covered = is_loop_covered(covered, around.level, cell);
             let inner = around.in_loop(is_covered);
             let mid = convert_block(lines, from + 1, to - 1, covered, inner, steps, at + 2);
-            let level = inner.level;
-            let counter = around.loops;
-            steps[at] = loop_head(is_covered, level, counter);
-            steps[at + 1] = loop_test(is_covered, level, counter, cell, bound, mid + 1, from);
-            steps[mid] = loop_back(is_covered, level, bound, at + 1);
-            if is_covered {
-                steps[mid + 1] = Step::Close {
-                    level,
-                    cell,
-                    line: from,
-                };
-                mid + 2
-            } else {
-                mid + 1
-            }
+            let own = LoopSteps {
+                is_covered,
+                level: inner.level,
+                counter: around.loops,
+                cell,
+                bound,
+                line: from,
+            };
+            own.put(steps, at, mid)
         }
         Line::Work { .. } => unreachable(),
         Line::Literal { .. } => unreachable(),

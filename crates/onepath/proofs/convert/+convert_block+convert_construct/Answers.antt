@@ -8,7 +8,7 @@ use Rattle.sheet.specs.Spans.{lineAt, Spans, endOf, pastOf}
 use Rattle.sheet.proofs.Heads.{at-if, at-loop}
 use Rattle.onepath.specs.Cover.{coveredIn}
 use Rattle.onepath.proofs.Parts.{part-plain, part-construct}
-use Rattle.onepath.proofs.Arms.{none, joined, plain, whole-if, whole-covered, whole-open}
+use Rattle.onepath.proofs.Arms.{none, joined, plain, whole-if, whole-loop}
 use Rattle.onepath.proofs.convert.+convert_block+convert_construct.Needs as need
 
 -- the block
@@ -95,20 +95,6 @@ convert-construct-convert-block-next-requires t c κs =
       ),
     )
 
-pub convert-construct-offset-steps-mid : need.convert-construct-offset-steps-mid
-convert-construct-offset-steps-mid t c =
-    let v = at-if (c .args .lines .now) (c .args .from) (c .args .to) (omega arith) _ _ (c .in-If .is) (c .pre .reads .0) (c .pre .reads .1) in
-    let d = c .convert-block-mid .ensures in
-    let l : c .convert-block-mid .result < length (c .args .steps .now) = omega (arith, d .most, v .le-first, v .le-second, v .le-rest) in
-    search needs
-
-pub convert-construct-index-steps-mid : need.convert-construct-index-steps-mid
-convert-construct-index-steps-mid t c =
-    let v = at-if (c .args .lines .now) (c .args .from) (c .args .to) (omega arith) _ _ (c .in-If .is) (c .pre .reads .0) (c .pre .reads .1) in
-    let d = c .convert-block-mid .ensures in
-    let d₂ = c .convert-block-next .ensures in
-    simp length-set (omega (arith, d .most, d .long, d₂ .long, v .le-first, v .le-second, v .le-rest))
-
 pub convert-construct-convert-block-mid-requires-in-Loop :
     need.convert-construct-convert-block-mid-requires-in-Loop
 convert-construct-convert-block-mid-requires-in-Loop t c κs =
@@ -123,18 +109,18 @@ convert-construct-convert-block-mid-requires-in-Loop t c κs =
       ),
     )
 
-pub convert-construct-index-steps-mid-in-Loop : need.convert-construct-index-steps-mid-in-Loop
-convert-construct-index-steps-mid-in-Loop t c =
-    let v = at-loop (c .args .lines .now) (c .args .from) (c .args .to) (omega arith) _ _ _ (c .in-Loop .is) (c .pre .reads .0) (c .pre .reads .1) in
-    let d = c .convert-block-mid-in-Loop .ensures in
-    simp length-set (omega (arith, d .most, d .long, v .le-first, v .le-rest))
+pub convert-construct-put-requires : need.convert-construct-put-requires
+convert-construct-put-requires t c κs =
+    let v = at-if (c .args .lines .now) (c .args .from) (c .args .to) (omega arith) _ _ (c .in-If .is) (c .pre .reads .0) (c .pre .reads .1) in
+    let d₁ = c .convert-block-mid .ensures in
+    let d₂ = c .convert-block-next .ensures in
+    (omega (arith, d₁ .least), omega (arith, d₁ .most, d₁ .long, d₂ .long, v .le-first, v .le-second, v .le-rest))
 
-pub convert-construct-index-steps-mid-then-is-covered :
-    need.convert-construct-index-steps-mid-then-is-covered
-convert-construct-index-steps-mid-then-is-covered t c =
+pub convert-construct-put-requires-in-Loop : need.convert-construct-put-requires-in-Loop
+convert-construct-put-requires-in-Loop t c κs =
     let v = at-loop (c .args .lines .now) (c .args .from) (c .args .to) (omega arith) _ _ _ (c .in-Loop .is) (c .pre .reads .0) (c .pre .reads .1) in
-    let d = c .convert-block-mid-in-Loop .ensures in
-    simp length-set (omega (arith, d .most, d .long, v .le-first, v .le-rest))
+    let d₁ = c .convert-block-mid-in-Loop .ensures in
+    (omega (arith, d₁ .least), omega (arith, d₁ .most, d₁ .long, v .le-first, v .le-rest))
 
 -- what the construct leaves
 
@@ -143,27 +129,14 @@ convert-construct-returns-in-If t c =
     let v = at-if (c .args .lines .now) (c .args .from) (c .args .to) (omega arith) _ _ (c .in-If .is) (c .pre .reads .0) (c .pre .reads .1) in
     let zz : v .z + 1 ≡ c .args .to = sym (c .pre .one ∙ ap (pastOf (c .args .lines .now)) (c .in-If .is) ∙ ap (λ l. endOf l + 1) (v .mid)) in
     let i = c .in-if-inner .ensures in
-    whole-if (coveredIn (c .args .covered .now)) (c .args .lines .now) (c .args .around .level) (c .args .around .loops) (c .args .from) (c .args .to) (c .args .steps .now) _ (c .convert-block-next .last .steps) (c .args .at) (c .convert-block-mid .result) _ (c .in-If .cell) _ (c .is-cell-covered-is-covered .result) (c .in-if-inner .result .level) (c .in-if-inner .result .loops) (c .if-head .result) (c .if-middle .result)
+    whole-if (coveredIn (c .args .covered .now)) (c .args .lines .now) (c .args .around .level) (c .args .around .loops) (c .args .from) (c .args .to) (c .args .steps .now) _ _ _ (c .args .at) (c .convert-block-mid .result) _ (c .in-If .cell) _ (c .is-cell-covered-is-covered .result) _ _
     (omega arith) (c .in-If .is) (c .pre .one) (omega arith) (v .le-first) (omega (arith, zz, v .le-second))
-    (c .is-cell-covered-is-covered .ensures) (i .level) (i .loops)
-    (c .convert-block-mid .ensures) (c .convert-block-next .ensures) (c .if-head .ensures) (c .if-middle .ensures)
+    (c .is-cell-covered-is-covered .ensures) (i .level) (i .loops) (c .convert-block-mid .ensures) (c .convert-block-next .ensures) (c .put .ensures)
 
-pub convert-construct-returns-then-is-covered : need.convert-construct-returns-then-is-covered
-convert-construct-returns-then-is-covered t c =
+pub convert-construct-returns-in-Loop : need.convert-construct-returns-in-Loop
+convert-construct-returns-in-Loop t c =
     let v = at-loop (c .args .lines .now) (c .args .from) (c .args .to) (omega arith) _ _ _ (c .in-Loop .is) (c .pre .reads .0) (c .pre .reads .1) in
-    let d = c .convert-block-mid-in-Loop .ensures in
     let i = c .in-loop-inner .ensures in
-    whole-covered (coveredIn (c .args .covered .now)) (c .args .lines .now) (c .args .around .level) (c .args .around .loops) (c .args .from) (c .args .to) (c .args .steps .now) (c .convert-block-mid-in-Loop .last .steps) (c .args .at) (c .convert-block-mid-in-Loop .result) (c .in-Loop .cell) (c .in-Loop .bound) _ (c .is-loop-covered-is-covered .result) (c .in-loop-inner .result .level) (c .in-loop-inner .result .loops) (c .loop-head .result) (c .loop-test .result) (c .loop-back .result)
+    whole-loop (coveredIn (c .args .covered .now)) (c .args .lines .now) (c .args .around .level) (c .args .around .loops) (c .args .from) (c .args .to) (c .args .steps .now) _ _ (c .args .at) (c .convert-block-mid-in-Loop .result) _ (c .in-Loop .cell) (c .in-Loop .bound) _ (c .is-loop-covered-is-covered .result) _ _
     (omega arith) (c .in-Loop .is) (c .pre .one) (omega arith) (omega (arith, v .le-first, v .le-rest))
-    (c .is-loop-covered-is-covered .ensures) (i .level) (i .loops) d (c .loop-head .ensures) (c .loop-test .ensures) (c .loop-back .ensures)
-    (c .if-is-covered .taken) (omega (arith, d .most, d .long, v .le-first, v .le-rest))
-
-pub convert-construct-returns-else-is-covered : need.convert-construct-returns-else-is-covered
-convert-construct-returns-else-is-covered t c =
-    let v = at-loop (c .args .lines .now) (c .args .from) (c .args .to) (omega arith) _ _ _ (c .in-Loop .is) (c .pre .reads .0) (c .pre .reads .1) in
-    let d = c .convert-block-mid-in-Loop .ensures in
-    let i = c .in-loop-inner .ensures in
-    whole-open (coveredIn (c .args .covered .now)) (c .args .lines .now) (c .args .around .level) (c .args .around .loops) (c .args .from) (c .args .to) (c .args .steps .now) (c .convert-block-mid-in-Loop .last .steps) (c .args .at) (c .convert-block-mid-in-Loop .result) (c .in-Loop .cell) (c .in-Loop .bound) _ (c .is-loop-covered-is-covered .result) (c .in-loop-inner .result .level) (c .in-loop-inner .result .loops) (c .loop-head .result) (c .loop-test .result) (c .loop-back .result)
-    (omega arith) (c .in-Loop .is) (c .pre .one) (omega arith) (omega (arith, v .le-first, v .le-rest))
-    (c .is-loop-covered-is-covered .ensures) (i .level) (i .loops) d (c .loop-head .ensures) (c .loop-test .ensures) (c .loop-back .ensures)
-    (c .if-is-covered .left)
+    (c .is-loop-covered-is-covered .ensures) (i .level) (i .loops) (c .convert-block-mid-in-Loop .ensures) (c .put-in-Loop .ensures .steps) (c .put-in-Loop .ensures .next)
