@@ -7,7 +7,7 @@ use native.Mathlib.Omega.{arith}
 use lib.ListN.{length, drop}
 use Rattle.std.proofs.shelf.Lists.{length-append, length-drop, getD-drop, ext-getD}
 use Rattle.sheet.specs.Code.{Code, stop, work, literal, choose, repeat, sizeOf}
-use Rattle.sheet.proofs.Stands.{Stands, stands-append, stands-front, stands-moved}
+use Rattle.sheet.proofs.Stands.{Stands, stands-append, stands-split, stands-self, stands-front, stands-moved}
 use Rattle.onepath.specs.Cover.{loopCovered, levelIn, loopsIn}
 use Rattle.onepath.specs.Own.{ifHead, ifMiddle, loopHead, loopTest, loopBack, loopEnd}
 use Rattle.onepath.specs.Listed.{stepsOf}
@@ -63,6 +63,51 @@ module _ (cov : ℕ → Bool) (ts : List Step) where
         simp length-append (omega (arith, w .0)),
         (h .2, (subst (λ y. stepAt ts (i + 1) ≡ loopTest b own d x n (y + 1) l) (f .0) (h .3), stands-moved (Jump 0) ts (i + 2) (i + 1 + 1) bs (omega arith) tail)),
       )
+
+ends-listed : (b : Bool) (ts : List Step) (k x l m : ℕ) → Here ts m (loopEnd b k x l) → LoopEnd b ts k x l m (m + length (loopEnd b k x l))
+ends-listed true ts k x l m h = (h .0, omega arith)
+ends-listed false ts k x l m h = omega arith
+
+module _ (cov : ℕ → Bool) (ts : List Step) where
+  pub stand-holds : (k d l i j : ℕ) (c : Code) → j ≡ i + length (stepsOf cov k d l i c) → Here ts i (stepsOf cov k d l i c) → Holds cov ts k d l i j c
+  stand-holds k d l i j stop g h = omega arith
+  stand-holds k d l i j (work t o a b r) g h = (h .0, stand-holds k d (l + 1) (i + 1) j r (omega arith) (h .1))
+  stand-holds k d l i j (literal t n r) g h = (h .0, stand-holds k d (l + 1) (i + 1) j r (omega arith) (h .1))
+  stand-holds k d l i j (choose x p q r) g h =
+      let b = cov x in
+      let own = levelIn b k in
+      let else = l + 1 + sizeOf p in
+      let end = else + 1 + sizeOf q in
+      let ps = stepsOf cov own d (l + 1) (i + 1) p in
+      let m = i + 1 + length ps in
+      let qs = stepsOf cov own d (else + 1) (m + 1) q in
+      let e = m + 1 + length qs in
+      let rs = stepsOf cov k d (end + 1) e r in
+      let s = stands-split (Jump 0) ts (i + 1) ps (ifMiddle b own e ∷ (qs ++ rs)) (h .1) in
+      let u = stands-split (Jump 0) ts (m + 1) qs rs (s .1 .1) in
+      let long : j ≡ e + length rs = omega (arith, simp length-append at g) in
+      (m, e, h .0, stand-holds (levelIn (cov x) k) d (l + 1) (i + 1) m p refl (s .0), s .1 .0, stand-holds (levelIn (cov x) k) d (else + 1) (m + 1) e q refl (u .0), stand-holds k d (end + 1) e j r long (u .1))
+  stand-holds k d l i j (repeat x n p r) g h =
+      let b = loopCovered cov k x in
+      let own = levelIn b k in
+      let end = l + 1 + sizeOf p in
+      let ps = stepsOf cov own (loopsIn b d) (l + 1) (i + 2) p in
+      let m = i + 2 + length ps in
+      let es = loopEnd b own x l in
+      let e = m + 1 + length es in
+      let rs = stepsOf cov k d (end + 1) e r in
+      let bs = loopBack b own n (i + 1) ∷ (es ++ rs) in
+      let s = stands-split (Jump 0) ts (i + 2) ps bs (stands-moved (Jump 0) ts (i + 1 + 1) (i + 2) (ps ++ bs) (omega arith) (h .1 .1)) in
+      let u = stands-split (Jump 0) ts (m + 1) es rs (s .1 .1) in
+      let long : j ≡ e + length rs = omega (arith, simp length-append at g) in
+      (m, e, h .0, h .1 .0, stand-holds (levelIn (loopCovered cov k x) k) (loopsIn (loopCovered cov k x) d) (l + 1) (i + 2) m p refl (s .0), s .1 .0, ends-listed b ts own x l (m + 1) (u .0), stand-holds k d (end + 1) e j r long (u .1))
+
+-- a table that begins with the code's steps holds them
+pub front-holds : (cov : ℕ → Bool) (ts us : List Step) (k d l : ℕ) (c : Code) → ts ≡ stepsOf cov k d l 0 c ++ us → Holds cov ts k d l 0 (length (stepsOf cov k d l 0 c)) c
+front-holds cov ts us k d l c e =
+    let s = stepsOf cov k d l 0 c in
+    stand-holds cov ts k d l 0 (length s) c (omega arith)
+    (subst (λ y. Here y 0 s) (sym e) (stands-split (Jump 0) (s ++ us) 0 s us (stands-self (Jump 0) (s ++ us)) .0))
 
 -- two tables that agree from r on
 same-past : (ts us : List Step) (r : ℕ) → length us ≡ length ts → ((x : ℕ) → r ≤ x → stepAt us x ≡ stepAt ts x) → drop r us ≡ drop r ts
