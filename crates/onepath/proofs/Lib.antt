@@ -1,0 +1,4 @@
+pub mod Kept
+pub mod Parts
+pub mod Arms
+pub mod Front
