@@ -4,9 +4,7 @@ use mathlib.Core.Logic.{inl, inr}
 use mathlib.Core.List.{List, [], _∷_, _++_}
 use Prim.Native.Nat.{ℕ, _+_, _-_, _*_, _<_, _≤_}
 use native.Mathlib.Omega.{arith}
-use lib.Dec.{leb}
 use lib.ListN.{getD, length, take, drop}
-use Rattle.std.proofs.shelf.Tests.{le-leb}
 use denote.Ref.{now}
 use Rattle.std.specs.declared.option.Option.{Option}
 use Rattle.std.specs.declared.option.Option.the-variants.{Some, None}
@@ -14,18 +12,16 @@ use Rattle.std.proofs.shelf.Lists.{length-append, length-drop, getD-drop, ext-g
 use Rattle.sheet.specs.Code.{sizeOf}
 use Rattle.sheet.specs.Table.{linesOf}
 use Rattle.sheet.specs.Layout.{Program, header, codeBytes, sheetBytes}
-use Rattle.sheet.specs.Checks.{wordAt, unless, orElse, headerOf, sheetFault, readFault}
+use Rattle.sheet.specs.Checks.{wordAt, headerOf, sheetFault}
 use Rattle.sheet.specs.Results.{Bytes}
 use Rattle.sheet.specs.Reading.{Laid, Tells, Filled}
 use Rattle.sheet.specs.Filling.{Begins, FilledFrom}
 use Rattle.sheet.specs.declared.faults.ReadFault.{ReadFault}
-use Rattle.sheet.specs.declared.faults.ReadFault.the-variants.{Table}
 use Rattle.sheet.specs.declared.headers.Header.{Header}
 use Rattle.sheet.specs.declared.headers.Sheet.{Sheet}
 use Rattle.sheet.specs.declared.lines.Line.{Line}
 use Rattle.sheet.specs.declared.lines.Line.the-variants.{Work}
 use Rattle.sheet.proofs.Stands.{Stands, stands-take, stands-split, stands-self, stands-moved, stands-front}
-use Rattle.sheet.proofs.Stepping.{passed}
 use Rattle.sheet.proofs.Listed.{lines-size, spans-to-list}
 use Rattle.sheet.proofs.Sound.{Sheeted, sheeted, code-length, word-of}
 use Rattle.sheet.proofs.Complete.{layout-passes}
@@ -53,6 +49,9 @@ module _ (bs : List ℕ) (h : Header) (is : h ≡ headerOf bs) (bytes : Bytes bs
 
 -- where the parts of a program lie among its bytes
 module _ (bs : List ℕ) (p : Program) (laid : Laid bs p) where
+  pub laid-cells : wordAt bs 0 ≡ p .cells
+  laid-cells = ap (λ y. wordAt y 0) (laid .bytes) ∙ word-of (p .cells)
+
   pub laid-lines : wordAt bs 4 ≡ sizeOf (p .code)
   laid-lines = ap (λ y. wordAt y 4) (laid .bytes) ∙ word-of (sizeOf (p .code))
 
@@ -83,10 +82,3 @@ table-filled bs base n r p before after e room b d =
     ext-getD (Work 0 0 0 0) (drop k after) (drop k before) (simp length-drop (omega arith))
     (λ i l. getD-drop k after i (Work 0 0 0 0) ∙ d .outside (k + i) (inr (omega arith)) ∙ sym (getD-drop k before i (Work 0 0 0 0))) in
     record { room = omega arith; lines = front ∙ ap (λ y. ls ++ y) rest }
-
--- a line table that has room for the sheet is no fault
-module _ (bs : List ℕ) (n : ℕ) (p : Program) (laid : Laid bs p) (none : None ≡ sheetFault bs) where
-  pub roomy : sizeOf (p .code) ≤ n → None ≡ readFault bs n
-  roomy l =
-      let e = laid-lines bs p laid in
-      sym (ap (λ y. orElse y (unless (leb (wordAt bs 4) n) Table None)) (sym none) ∙ passed _ _ _ (le-leb (wordAt bs 4) n (omega arith)))

@@ -24,11 +24,12 @@ abbrev pub wordAt : List ℕ → ℕ → ℕ
 wordAt bs i = byteAt bs i + 256 * byteAt bs (i + 1)
 
 -- the fault, unless the test is passed; then whatever comes after
-abbrev pub unless : Bool → ReadFault → Option ReadFault → Option ReadFault
+abbrev pub unless : {F : Type 0} → Bool → F → Option F → Option F
 unless true f rest = rest
 unless false f rest = Some f
 
-abbrev pub orElse : Option ReadFault → Option ReadFault → Option ReadFault
+-- the first fault of two
+abbrev pub orElse : {F : Type 0} → Option F → Option F → Option F
 orElse (Some f) rest = Some f
 orElse None rest = rest
 

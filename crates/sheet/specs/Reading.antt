@@ -30,6 +30,11 @@ abbrev pub Taken : List ℕ → Result Sheet ReadFault → Type 0
 Taken bs (Ok s) = (p : Program) × Laid bs p × Tells p s
 Taken bs (Err f) = (p : Program) → Laid bs p → ⊥
 
+-- ... and a table of so many lines has room for the program's
+abbrev pub Fits : List ℕ → ℕ → Result Sheet ReadFault → Type 0
+Fits bs room (Ok s) = (p : Program) × Laid bs p × Tells p s × (sizeOf (p .code) ≤ room)
+Fits bs room (Err f) = (p : Program) → Laid bs p → room < sizeOf (p .code)
+
 -- the line table begins with the program's lines, and its rest is as it was
 pub record Filled (p : Program) (before after : List Line) : Type 0 where
   pub room : sizeOf (p .code) ≤ length before

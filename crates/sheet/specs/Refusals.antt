@@ -1,5 +1,7 @@
--- The number and the place of each refusal of the reader.
+-- The number, the place and the layer of each refusal of the reader.
 use Prim.Native.Nat.{ℕ}
+use Rattle.sheet.specs.declared.faults.Layer.{Layer}
+use Rattle.sheet.specs.declared.faults.Layer.the-variants.{Reading}
 use Rattle.sheet.specs.declared.faults.ReadFault.{ReadFault}
 use Rattle.sheet.specs.declared.faults.ReadFault.the-variants.{Short, Limit, Offset, Mark, Byte, Nesting, Table}
 
@@ -20,3 +22,6 @@ placeOf (Mark p) = p
 placeOf (Byte p) = p
 placeOf (Nesting p) = p
 placeOf Table = 1
+
+abbrev pub layerOf : ReadFault → Layer
+layerOf f = Reading

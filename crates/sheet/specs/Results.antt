@@ -7,10 +7,9 @@ use Rattle.std.specs.declared.option.Option.{Option}
 use Rattle.std.specs.declared.option.Option.the-variants.{Some, None}
 use Rattle.std.specs.declared.result.Result.{Result}
 use Rattle.std.specs.declared.result.Result.the-variants.{Ok, Err}
-use Rattle.sheet.specs.declared.faults.ReadFault.{ReadFault}
 
 -- the fault that a check found
-abbrev pub found : {X : Type 0} → Result X ReadFault → Option ReadFault
+abbrev pub found : {X F : Type 0} → Result X F → Option F
 found (Ok x) = None
 found (Err f) = Some f
 

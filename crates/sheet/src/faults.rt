@@ -1,6 +1,6 @@
 // Why a sheet is not read. `at` is the byte, counted from the sheet's start, that is the refusal's place.
 ghost use mathlib.Core.Path.{_≡_};
-ghost use Rattle.sheet.specs.Refusals.{numberOf, placeOf};
+ghost use Rattle.sheet.specs.Refusals.{numberOf, placeOf, layerOf};
 
 #[derive(Clone, Copy)]
 pub enum ReadFault {
@@ -18,6 +18,14 @@ pub enum ReadFault {
     Nesting { at: usize },
     // The line table is shorter than the sheet.
     Table,
+}
+
+// The part of the work in which a fault was found.
+#[derive(Clone, Copy)]
+pub enum Layer {
+    Reading,
+    Marking,
+    Conversion,
 }
 
 impl ReadFault {
@@ -47,5 +55,11 @@ impl ReadFault {
             ReadFault::Nesting { at } => at,
             ReadFault::Table => 1,
         }
+    }
+
+    pub fn layer(&self) -> Layer
+        ensures { λ r. ⌜ r ≡ layerOf (now (self .entry)) ⌝ }
+    {
+        Layer::Reading
     }
 }

@@ -9,8 +9,10 @@ mod nesting;
 mod reading;
 mod rules;
 
+pub use faults::Layer;
 pub use faults::ReadFault;
 pub use headers::Sheet;
 pub use lines::Line;
 pub use reading::check;
+pub use reading::check_table;
 pub use reading::read;

@@ -4,7 +4,7 @@ ghost use Prim.Native.Nat.{ℕ, _+_, _*_, _<_, _≤_};
 ghost use lib.ListN.{length, getD};
 ghost use Rattle.std.specs.Results.{Cases};
 ghost use Rattle.sheet.specs.Checks.{headerOf, sheetFault, readFault};
-ghost use Rattle.sheet.specs.Reading.{Taken, Reads};
+ghost use Rattle.sheet.specs.Reading.{Taken, Fits, Reads};
 ghost use Rattle.sheet.specs.Refusals.{placeOf};
 ghost use Rattle.sheet.specs.Results.{found, Bytes};
 use crate::checking::check_limits;
@@ -49,15 +49,24 @@ pub fn check(bytes: &[u8]) -> Result<Sheet<'_>, ReadFault>
     })
 }
 
+// Checks a sheet's bytes, and that a table of `room` lines can take its lines.
+pub fn check_table(bytes: &[u8], room: usize) -> Result<Sheet<'_>, ReadFault>
+    ensures first { λ r. ⌜ found r ≡ readFault (now (bytes .entry)) room ⌝ }
+    ensures fits { λ r. ⌜ Fits (now (bytes .entry)) room r ⌝ }
+{
+    let sheet = check(bytes)?;
+    if room < sheet.lines {
+        return Err(ReadFault::Table);
+    }
+    Ok(sheet)
+}
+
 // Reads a sheet into the line table, which begins with its lines then, or answers the first fault.
 pub fn read<'a>(bytes: &'a [u8], table: &mut [Line]) -> Result<Sheet<'a>, ReadFault>
     ensures first { λ r. ⌜ found r ≡ readFault (now (bytes .entry)) (length (now (table .entry))) ⌝ }
     ensures reads { λ r. ⌜ Reads (now (bytes .entry)) (now (table .entry)) (now (table .exit)) r ⌝ }
 {
-    let sheet = check(bytes)?;
-    if table.len() < sheet.lines {
-        return Err(ReadFault::Table);
-    }
+    let sheet = check_table(bytes, table.len())?;
     fill_block(bytes, 14 + sheet.marks.len(), sheet.lines, 0, table);
     Ok(sheet)
 }
