@@ -28,7 +28,11 @@ pub fn check_tables(bytes: &[u8], lines: usize, marks: usize) -> Result<Sheet<'_
 }
 
 // Reads a sheet into the line table and gives each cell, in the mark table, its mark in the least marking.
-pub fn least_marking<'a, M: Mark>(bytes: &'a [u8], lines: &mut [Line], marks: &mut [M]) -> Result<Marked<'a>, MarkFault>
+pub fn least_marking<'a, M: Mark>(
+    bytes: &'a [u8],
+    lines: &mut [Line],
+    marks: &mut [M],
+) -> Result<Marked<'a>, MarkFault>
     ensures first { λ r. ⌜ found r ≡ markFault (now (bytes .entry)) (length (now (lines .entry))) (length (now (marks .entry))) ⌝ }
     ensures marks { λ r. ⌜ Marks joined owned unmarked height (now (bytes .entry)) (now (lines .entry)) (now (lines .exit)) (now (marks .entry)) (now (marks .exit)) r ⌝ }
 {

@@ -5,3 +5,5 @@ pub mod Own
 pub mod Put
 pub mod Listed
 pub mod Holds
+pub mod Refusals
+pub mod Converting

@@ -16,13 +16,14 @@ use Rattle.sheet.specs.Checks.{wordAt, headerOf, sheetFault}
 use Rattle.sheet.specs.Results.{Bytes}
 use Rattle.sheet.specs.Reading.{Laid, Tells, Filled}
 use Rattle.sheet.specs.Filling.{Begins, FilledFrom}
+use Rattle.sheet.specs.Spans.{Spans}
 use Rattle.sheet.specs.declared.faults.ReadFault.{ReadFault}
 use Rattle.sheet.specs.declared.headers.Header.{Header}
 use Rattle.sheet.specs.declared.headers.Sheet.{Sheet}
 use Rattle.sheet.specs.declared.lines.Line.{Line}
 use Rattle.sheet.specs.declared.lines.Line.the-variants.{Work}
 use Rattle.sheet.proofs.Stands.{Stands, stands-take, stands-split, stands-self, stands-moved, stands-front}
-use Rattle.sheet.proofs.Listed.{lines-size, spans-to-list}
+use Rattle.sheet.proofs.Listed.{lines-size, spans-to-list, front-spans}
 use Rattle.sheet.proofs.Sound.{Sheeted, sheeted, code-length, word-of}
 use Rattle.sheet.proofs.Complete.{layout-passes}
 
@@ -82,3 +83,14 @@ table-filled bs base n r p before after e room b d =
     ext-getD (Work 0 0 0 0) (drop k after) (drop k before) (simp length-drop (omega arith))
     (λ i l. getD-drop k after i (Work 0 0 0 0) ∙ d .outside (k + i) (inr (omega arith)) ∙ sym (getD-drop k before i (Work 0 0 0 0))) in
     record { room = omega arith; lines = front ∙ ap (λ y. ls ++ y) rest }
+
+-- the table of a program, by places
+pub filled-spans : (p : Program) (before after : List Line) (n : ℕ) → Filled p before after → n ≡ sizeOf (p .code) → Spans after 0 n (p .code)
+filled-spans p before after n f e =
+    subst (λ y. Spans after 0 y (p .code)) (sym e) (front-spans after (drop (sizeOf (p .code)) before) (p .code) (f .lines))
+
+pub filled-long : (p : Program) (before after : List Line) → Filled p before after → sizeOf (p .code) ≤ length after
+filled-long p before after f =
+    let l = ap length (f .lines) ∙ length-append (linesOf 0 (p .code)) (drop (sizeOf (p .code)) before) in
+    let n = lines-size 0 (p .code) in
+    omega arith

@@ -1,15 +1,10 @@
 use mathlib.Core.Path.{_≡_, refl, sym, _∙_, ap, subst}
-use mathlib.Core.List.{_++_}
 use Prim.Native.Nat.{_≤_, _+_, _*_}
 use native.Mathlib.Omega.{arith}
 use lib.ListN.{length, take, drop}
-use Rattle.std.proofs.shelf.Lists.{length-append}
 use Rattle.sheet.specs.Code.{sizeOf, Keeps}
 use Rattle.sheet.specs.Layout.{Rising}
-use Rattle.sheet.specs.Spans.{Spans}
-use Rattle.sheet.specs.Table.{linesOf}
-use Rattle.sheet.proofs.Listed.{front-spans, lines-size}
-use Rattle.sheet.proofs.Verdicts.{laid-cells}
+use Rattle.sheet.proofs.Verdicts.{laid-cells, filled-spans, filled-long}
 use Rattle.marking.specs.Rules.{Least}
 use Rattle.marking.specs.Spread.{marking}
 use Rattle.marking.proofs.least.least_marking.Needs as need
@@ -20,7 +15,6 @@ mark-lines-passes-requires g c κs =
     let f = c .in-Continue-check-tables .ensures tt .fits in
     let p = w .0 in
     let s = c .in-Continue-sheet .sheet in
-    let code = p .code in
     let law = w .1 .lawful in
     let lines = w .2 .lines in
     let cells = w .2 .cells in
@@ -28,11 +22,9 @@ mark-lines-passes-requires g c κs =
     let same′ = laid-cells (c .args .bytes .now) (f .program) (f .laid) in
     let room = f .cells in
     let few = law .few in
-    let long : length (c .read .last .table) ≡ length (linesOf 0 code) + length (drop (sizeOf code) (c .args .lines .now)) = ap length (w .3 .lines) ∙ length-append (linesOf 0 code) (drop (sizeOf code) (c .args .lines .now)) in
-    let size = lines-size 0 code in
+    let long = filled-long p (c .args .lines .now) (c .read .last .table) (w .3) in
     record {
-      reads = (code, subst (λ n. Spans (c .read .last .table) 0 n code) (sym lines) (front-spans (c .read .last .table) (drop (sizeOf code) (c .args .lines .now)) code (w .3 .lines)),
-        subst (λ n. Keeps n 6 code) (sym cells) (law .keeps));
+      reads = (p .code, filled-spans p (c .args .lines .now) (c .read .last .table) (s .lines) (w .3) lines, subst (λ n. Keeps n 6 (p .code)) (sym cells) (law .keeps));
       inside = omega arith; room = omega arith; few = omega arith;
       rising = subst (λ n. Rising n 0 (s .marks .now)) (sym cells) (subst (λ ms. Rising (p .cells) 0 ms) (sym (w .2 .marks)) (law .rising)) }
 
@@ -42,21 +34,18 @@ returns g c =
     let f = c .in-Continue-check-tables .ensures tt .fits in
     let p = w .0 in
     let s = c .in-Continue-sheet .sheet in
-    let code = p .code in
     let m = c .mark-lines-passes .ensures in
     let after = c .mark-lines-passes .last .marks in
-    let lines = w .2 .lines in
     let cells = w .2 .cells in
     let same = laid-cells (c .args .bytes .now) p (w .1) in
     let same′ = laid-cells (c .args .bytes .now) (f .program) (f .laid) in
     let room = f .cells in
-    let spans = subst (λ n. Spans (c .read .last .table) 0 n code) (sym lines) (front-spans (c .read .last .table) (drop (sizeOf code) (c .args .lines .now)) code (w .3 .lines)) in
-    let least = m .least code spans in
+    let least = m .least (p .code) (filled-spans p (c .args .lines .now) (c .read .last .table) (s .lines) (w .3) (w .2 .lines)) in
     record { first = c .in-Continue-check-tables .ensures tt .first;
       marks = (p, w .1, w .2, w .3,
         record {
-          least = subst (λ n. Least (g .M·Mark .joined) (g .M·Mark .owned) (marking (g .M·Mark .unmarked) (take n after)) (p .marks) code) cells
-            (subst (λ ms. Least (g .M·Mark .joined) (g .M·Mark .owned) (marking (g .M·Mark .unmarked) (take (s .cells) after)) ms code) (w .2 .marks) least);
+          least = subst (λ n. Least (g .M·Mark .joined) (g .M·Mark .owned) (marking (g .M·Mark .unmarked) (take n after)) (p .marks) (p .code)) cells
+            (subst (λ ms. Least (g .M·Mark .joined) (g .M·Mark .owned) (marking (g .M·Mark .unmarked) (take (s .cells) after)) ms (p .code)) (w .2 .marks) least);
           rest = subst (λ n. drop n after ≡ drop n (c .args .marks .now)) cells (m .rest);
           long = m .long; room = omega arith;
           few = subst (λ n. c .mark-lines-passes .result ≤ g .M·Mark .height * n + 1) cells (m .passes) }) }

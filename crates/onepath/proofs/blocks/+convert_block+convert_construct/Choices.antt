@@ -6,7 +6,7 @@ use Rattle.sheet.specs.Spans.{Spans}
 use Rattle.onepath.specs.Cover.{coveredIn}
 use Rattle.onepath.specs.Holds.{Converted}
 use Rattle.onepath.specs.declared.steps.Step.{Step}
-use Rattle.onepath.proofs.convert.+convert_block+convert_construct.Given as given
+use Rattle.onepath.proofs.blocks.+convert_block+convert_construct.Given as given
 
 abbrev pub μ-convert-block : given.MeasureT-convert-block
 μ-convert-block l = 2 * (l .to - l .from) + 1

@@ -1,7 +1,7 @@
 use native.Mathlib.Omega.{arith}
 use Rattle.onepath.specs.Cover.{coveredIn}
 use Rattle.onepath.proofs.Front.{holds-stand, front-steps}
-use Rattle.onepath.proofs.convert.convert_lines.Needs as need
+use Rattle.onepath.proofs.blocks.convert_lines.Needs as need
 
 pub returns : need.returns
 returns c =

@@ -1,7 +1,7 @@
 use mathlib.Core.Path.{refl}
 use native.Mathlib.Omega.{arith}
 use Rattle.sheet.specs.Code.{stop, literal, repeat}
-use Rattle.onepath.proofs.convert.tests.open_loop.Needs as need
+use Rattle.onepath.proofs.blocks.tests.open_loop.Needs as need
 
 pub convert-lines-count-requires : need.convert-lines-count-requires
 convert-lines-count-requires c κs =

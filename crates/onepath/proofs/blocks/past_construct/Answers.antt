@@ -3,7 +3,7 @@ use borrow.Author.Needs.{needs}
 use native.Mathlib.Omega.{arith}
 use lib.ListN.{length}
 use Rattle.onepath.proofs.Parts.{begins-if, begins-loop}
-use Rattle.onepath.proofs.convert.past_construct.Needs as need
+use Rattle.onepath.proofs.blocks.past_construct.Needs as need
 
 pub offset-lines-partner : need.offset-lines-partner
 offset-lines-partner c =

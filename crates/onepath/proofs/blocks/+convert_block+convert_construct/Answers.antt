@@ -9,7 +9,7 @@ use Rattle.sheet.proofs.Heads.{at-if, at-loop}
 use Rattle.onepath.specs.Cover.{coveredIn}
 use Rattle.onepath.proofs.Parts.{part-plain, part-construct}
 use Rattle.onepath.proofs.Arms.{none, joined, plain, whole-if, whole-loop}
-use Rattle.onepath.proofs.convert.+convert_block+convert_construct.Needs as need
+use Rattle.onepath.proofs.blocks.+convert_block+convert_construct.Needs as need
 
 -- the block
 
