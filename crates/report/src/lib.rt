@@ -1,0 +1,42 @@
+// What is printed of a sheet.
+ghost use mathlib.Core.Path.{_≡_};
+ghost use lib.Chars.{codes};
+ghost use Rattle.std.specs.Of.String.{string-bytes};
+ghost use Rattle.std.specs.Vec.{made};
+ghost use Rattle.report.specs.Texts.{refusalText, coveredText, stepsText};
+use onepath::Step;
+use std::alloc::AllocError;
+use std::alloc::Global;
+
+// The line for a refusal.
+pub fn refusal_line(heap: Global, number: u32, place: usize) -> Result<String, AllocError>
+    ensures { λ r. ⌜ made r (λ s. string-bytes s ≡ refusalText number place) ⌝ }
+{
+    format!(heap, "refused {number} at {place}")
+}
+
+// The line that names the covered cells.
+pub fn covered_line(heap: Global, marks: &[bool]) -> Result<String, AllocError>
+    ensures { λ r. ⌜ made r (λ s. string-bytes s ≡ coveredText (now (marks .entry))) ⌝ }
+{
+    let mut text = String::from_str(heap, "covered")?;
+    for (cell, mark) in marks.iter().enumerate() {
+        if *mark {
+            let item = format!(heap, " {cell}")?;
+            text.push_str(item.as_str())?;
+        }
+    }
+    Ok(text)
+}
+
+// The line that names the steps.
+pub fn steps_line(heap: Global, steps: &[Step]) -> Result<String, AllocError>
+    ensures { λ r. ⌜ made r (λ s. string-bytes s ≡ stepsText (now (steps .entry))) ⌝ }
+{
+    let mut text = String::from_str(heap, "steps")?;
+    for step in steps {
+        text.push_str(" ")?;
+        text.push_str(step.name())?;
+    }
+    Ok(text)
+}
