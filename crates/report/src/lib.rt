@@ -3,8 +3,11 @@ ghost use mathlib.Core.Path.{_≡_};
 ghost use lib.Chars.{codes};
 ghost use Rattle.std.specs.Of.String.{string-bytes};
 ghost use Rattle.std.specs.Vec.{made};
+ghost use Rattle.report.specs.Reports.{Reports};
 ghost use Rattle.report.specs.Texts.{refusalText, coveredText, stepsText};
 use onepath::Step;
+use onepath::convert;
+use sheet::Line;
 use std::alloc::AllocError;
 use std::alloc::Global;
 
@@ -39,4 +42,24 @@ pub fn steps_line(heap: Global, steps: &[Step]) -> Result<String, AllocError>
         text.push_str(step.name())?;
     }
     Ok(text)
+}
+
+// What the sheet printer writes of a sheet: its covered cells and its steps, or its refusal.
+pub fn sheet_report(heap: Global, bytes: &[u8]) -> Result<String, AllocError>
+    ensures { λ r. ⌜ made r (λ s. Reports (now (bytes .entry)) (string-bytes s)) ⌝ }
+{
+    let mut lines = [Line::Else { partner: 0 }; 512];
+    let mut marks = [false; 64];
+    let mut steps = [Step::Jump { to: 0 }; 1024];
+    match convert(bytes, &mut lines, &mut marks, &mut steps) {
+        Ok(path) => {
+            let covered = covered_line(heap, &marks[0..path.sheet.cells])?;
+            let names = steps_line(heap, &steps[0..path.steps])?;
+            format!(heap, "{covered}\n{names}\n")
+        }
+        Err(fault) => {
+            let refusal = refusal_line(heap, fault.number(), fault.place())?;
+            format!(heap, "{refusal}\n")
+        }
+    }
 }
