@@ -8,7 +8,7 @@ use native.Mathlib.Omega.{arith}
 use lib.ListN.{length, set}
 use Rattle.std.proofs.shelf.Lists.{getD-set-same, getD-set-other, length-set}
 use Rattle.std.specs.declared.option.Option.the-variants.{Some}
-use Rattle.sheet.specs.Code.{Code, stop, work, literal, choose, repeat, sizeOf}
+use Rattle.sheet.specs.Code.{Code, stop, work, literal, choose, repeat}
 use Rattle.sheet.specs.Spans.{lineAt, Spans, endOf, pastOf}
 use Rattle.sheet.specs.declared.lines.Line.{Line}
 use Rattle.sheet.specs.declared.lines.Line.the-variants.{Work, Literal, If, Else, End, Loop}

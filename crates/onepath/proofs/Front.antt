@@ -1,15 +1,15 @@
 -- The step table by places, `Holds`, and as a list, `stepsOf`, are the same table.
 use mathlib.Core.Path.{_≡_, refl, sym, _∙_, ap, subst}
 use mathlib.Core.Bool.{Bool, true, false}
-use mathlib.Core.List.{List, [], _∷_, _++_}
-use Prim.Native.Nat.{ℕ, _+_, _-_, _<_, _≤_}
+use mathlib.Core.List.{List, _∷_, _++_}
+use Prim.Native.Nat.{ℕ, _+_, _≤_}
 use native.Mathlib.Omega.{arith}
 use lib.ListN.{length, drop}
 use Rattle.std.proofs.shelf.Lists.{length-append, length-drop, getD-drop, ext-getD}
 use Rattle.sheet.specs.Code.{Code, stop, work, literal, choose, repeat, sizeOf}
 use Rattle.sheet.proofs.Stands.{Stands, stands-append, stands-split, stands-self, stands-front, stands-moved}
 use Rattle.onepath.specs.Cover.{loopCovered, levelIn, loopsIn}
-use Rattle.onepath.specs.Own.{ifHead, ifMiddle, loopHead, loopTest, loopBack, loopEnd}
+use Rattle.onepath.specs.Own.{ifHead, ifMiddle, loopTest, loopBack, loopEnd}
 use Rattle.onepath.specs.Listed.{stepsOf}
 use Rattle.onepath.specs.Holds.{stepAt, Holds, LoopEnd}
 use Rattle.onepath.specs.declared.steps.Step.{Step}

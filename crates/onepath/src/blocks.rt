@@ -1,7 +1,7 @@
 // The conversion of a line table into steps.
 ghost use mathlib.Core.Path.{_≡_};
 ghost use mathlib.Core.List.{_++_};
-ghost use Prim.Native.Nat.{ℕ, _+_, _-_, _*_, _<_, _≤_};
+ghost use Prim.Native.Nat.{_+_, _-_, _*_, _<_, _≤_};
 ghost use lib.ListN.{length, drop};
 ghost use Rattle.sheet.specs.Code.{Code};
 ghost use Rattle.sheet.specs.Spans.{lineAt, Spans, endOf, pastOf};
@@ -34,10 +34,7 @@ fn plain_step(line: Line, level: usize) -> Option<Step>
             target,
             number,
         }),
-        Line::If { .. } => None,
-        Line::Else { .. } => None,
-        Line::End { .. } => None,
-        Line::Loop { .. } => None,
+        _ => None,
     }
 }
 
@@ -47,11 +44,7 @@ fn end_of(line: Line) -> usize
 {
     match line {
         Line::Else { partner } => partner,
-        Line::Work { .. } => 0,
-        Line::Literal { .. } => 0,
-        Line::If { .. } => 0,
-        Line::End { .. } => 0,
-        Line::Loop { .. } => 0,
+        _ => 0,
     }
 }
 
@@ -64,10 +57,7 @@ fn past_construct(lines: &[Line], from: usize) -> usize
     match opener {
         Line::If { partner, .. } => end_of(lines[partner]) + 1,
         Line::Loop { partner, .. } => partner + 1,
-        Line::Work { .. } => 0,
-        Line::Literal { .. } => 0,
-        Line::Else { .. } => 0,
-        Line::End { .. } => 0,
+        _ => 0,
     }
 }
 
@@ -152,10 +142,7 @@ fn convert_construct(
             };
             own.put(steps, at, mid)
         }
-        Line::Work { .. } => unreachable(),
-        Line::Literal { .. } => unreachable(),
-        Line::Else { .. } => unreachable(),
-        Line::End { .. } => unreachable(),
+        _ => unreachable(),
     }
 }
 

@@ -2,8 +2,8 @@
 // its blocks.
 ghost use mathlib.Core.Path.{_≡_};
 ghost use Prim.Native.Nat.{_+_, _^_, _<_, _≤_};
-ghost use Rattle.onepath.specs.Cover.{coveredIn, loopCovered, levelIn, loopsIn};
 ghost use lib.ListN.{length};
+ghost use Rattle.onepath.specs.Cover.{coveredIn, loopCovered, levelIn, loopsIn};
 ghost use Rattle.onepath.specs.Put.{putIf, putLoop, pastEnd};
 use crate::steps::Step;
 
@@ -55,11 +55,7 @@ pub(crate) fn is_cell_covered(covered: &[bool], cell: u8) -> bool
     ensures { λ r. ⌜ r ≡ coveredIn (now (covered .entry)) cell ⌝ }
 {
     let place = usize::from(cell);
-    if place < covered.len() {
-        covered[place]
-    } else {
-        false
-    }
+    place < covered.len() && covered[place]
 }
 
 // Whether a loop is covered: by its cell, or by a covered construct around it.

@@ -2,8 +2,9 @@
 ghost use mathlib.Core.Path.{_≡_};
 ghost use Rattle.onepath.specs.Names.{nameOf};
 
-// `level` is a guard's number; a step with a level takes effect where that guard holds. `to` is a step's place,
-// `line` the number of the line that opened the loop, `counter` the number of an open loop's counter.
+// A level has a guard, and that of level 0 always holds. A work or literal step takes effect where the guard of its
+// line's level holds; the other steps with a level have a covered construct's own, whose guard they set. `to` is the
+// place of a step, `line` the number of the loop's line, `counter` the number of an open loop's counter.
 #[derive(Clone, Copy)]
 pub enum Step {
     // The line's operation on two cells.
@@ -20,31 +21,31 @@ pub enum Step {
         target: u8,
         number: u32,
     },
-    // Begins a covered if: its level's guard holds where the cell does.
+    // Begins a covered if: its guard holds where the guard one level out and the cell do.
     Ask {
         level: usize,
         cell: u8,
     },
-    // Comes to a covered if's second block: its level's guard turns.
+    // Begins its second block: its guard holds where the guard one level out does and the cell did not.
     Turn {
         level: usize,
     },
-    // Begins a covered loop.
+    // Begins a covered loop: its guard is the guard one level out.
     Setout {
         level: usize,
     },
-    // Begins a pass of a covered loop: its level's guard holds on only where the cell does.
+    // Begins a pass of it: its guard holds on only where the cell does.
     Narrow {
         level: usize,
         cell: u8,
     },
-    // Ends a pass of a covered loop, and goes back while there were fewer than `bound`.
+    // Ends a pass of it, and goes back to begin another while there were fewer than `bound`.
     Again {
         level: usize,
         bound: u8,
         to: usize,
     },
-    // Ends a covered loop: it broke its bound where its guard and its cell still hold.
+    // Ends it: where its guard and its cell still hold, the loop broke its bound.
     Close {
         level: usize,
         cell: u8,

@@ -1,10 +1,10 @@
 use mathlib.Core.Path.{_≡_, refl, sym, _∙_, ap, subst}
-use Prim.Native.Nat.{ℕ, _+_, _-_, _*_, _<_, _≤_}
+use Prim.Native.Nat.{_+_, _-_, _<_}
 use native.Mathlib.Omega.{arith}
 use borrow.Author.Needs.{needs}
-use lib.ListN.{length, set}
+use lib.ListN.{length}
 use Rattle.std.proofs.shelf.Lists.{length-set}
-use Rattle.sheet.specs.Spans.{lineAt, Spans, endOf, pastOf}
+use Rattle.sheet.specs.Spans.{Spans, endOf, pastOf}
 use Rattle.sheet.proofs.Heads.{at-if, at-loop}
 use Rattle.onepath.specs.Cover.{coveredIn}
 use Rattle.onepath.proofs.Parts.{part-plain, part-construct}
