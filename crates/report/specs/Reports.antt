@@ -1,9 +1,8 @@
 -- What the printers write of a sheet.
 use mathlib.Core.Path.{_≡_}
 use mathlib.Core.Bool.{Bool, true, _||_}
-use mathlib.Core.List.{List, _++_}
+use mathlib.Core.List.{List}
 use Prim.Native.Nat.{ℕ}
-use lib.Chars.{codes}
 use lib.ListN.{length}
 use Rattle.std.specs.declared.option.Option.{Option}
 use Rattle.std.specs.declared.option.Option.the-variants.{Some, None}
@@ -14,7 +13,7 @@ use Rattle.onepath.specs.Cover.{coveredIn}
 use Rattle.onepath.specs.Listed.{stepsOf}
 use Rattle.onepath.specs.Refusals.{convertFault, numberOf, placeOf}
 use Rattle.onepath.specs.declared.faults.ConvertFault.{ConvertFault}
-use Rattle.report.specs.Texts.{refusalText, coveredText, stepsText}
+use Rattle.report.specs.Texts.{refusalText, pathText}
 
 -- the covered cells, which are the least set that the rules allow, and the steps
 pub record Tells (bs text : List ℕ) : Type 0 where
@@ -23,11 +22,11 @@ pub record Tells (bs text : List ℕ) : Type 0 where
   pub covered : List Bool
   pub cells : length covered ≡ program .cells
   pub least : Least _||_ (λ _. true) (coveredIn covered) (program .marks) (program .code)
-  pub says : text ≡ coveredText covered ++ (codes "\n" ++ (stepsText (stepsOf (coveredIn covered) 0 0 0 0 (program .code)) ++ codes "\n"))
+  pub says : text ≡ pathText covered (stepsOf (coveredIn covered) 0 0 0 0 (program .code))
 
 -- a sheet's first fault, where it has one
 abbrev pub ReportsOf : Option ConvertFault → List ℕ → List ℕ → Type 0
-ReportsOf (Some f) bs text = text ≡ refusalText (numberOf f) (placeOf f) ++ codes "\n"
+ReportsOf (Some f) bs text = text ≡ refusalText (numberOf f) (placeOf f)
 ReportsOf None bs text = Tells bs text
 
 abbrev pub Reports : List ℕ → List ℕ → Type 0

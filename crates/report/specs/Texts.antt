@@ -8,7 +8,7 @@ use Rattle.onepath.specs.Names.{nameOf}
 use Rattle.onepath.specs.declared.steps.Step.{Step}
 
 abbrev pub refusalText : ℕ → ℕ → List ℕ
-refusalText number place = codes "refused " ++ (decimal number ++ (codes " at " ++ decimal place))
+refusalText number place = codes "refused " ++ (decimal number ++ (codes " at " ++ (decimal place ++ codes "\n")))
 
 -- the cells from i on whose mark is yes, each after a space
 abbrev pub coveredFrom : ℕ → List Bool → List ℕ
@@ -26,3 +26,6 @@ stepNames (s ∷ ss) = codes " " ++ (nameOf s ++ stepNames ss)
 
 abbrev pub stepsText : List Step → List ℕ
 stepsText steps = codes "steps" ++ stepNames steps
+
+abbrev pub pathText : List Bool → List Step → List ℕ
+pathText marks steps = coveredText marks ++ (codes "\n" ++ (stepsText steps ++ codes "\n"))

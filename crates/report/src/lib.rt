@@ -4,7 +4,7 @@ ghost use lib.Chars.{codes};
 ghost use Rattle.std.specs.Of.String.{string-bytes};
 ghost use Rattle.std.specs.Vec.{made};
 ghost use Rattle.report.specs.Reports.{Reports};
-ghost use Rattle.report.specs.Texts.{refusalText, coveredText, stepsText};
+ghost use Rattle.report.specs.Texts.{refusalText, coveredText, stepsText, pathText};
 use onepath::Step;
 use onepath::convert;
 use sheet::Line;
@@ -15,7 +15,7 @@ use std::alloc::Global;
 pub fn refusal_line(heap: Global, number: u32, place: usize) -> Result<String, AllocError>
     ensures { λ r. ⌜ made r (λ s. string-bytes s ≡ refusalText number place) ⌝ }
 {
-    format!(heap, "refused {number} at {place}")
+    format!(heap, "refused {number} at {place}\n")
 }
 
 // The line that names the covered cells.
@@ -44,6 +44,15 @@ pub fn steps_line(heap: Global, steps: &[Step]) -> Result<String, AllocError>
     Ok(text)
 }
 
+// The two lines that are printed of a sheet that was converted.
+pub fn path_report(heap: Global, marks: &[bool], steps: &[Step]) -> Result<String, AllocError>
+    ensures { λ r. ⌜ made r (λ s. string-bytes s ≡ pathText (now (marks .entry)) (now (steps .entry))) ⌝ }
+{
+    let covered = covered_line(heap, marks)?;
+    let names = steps_line(heap, steps)?;
+    format!(heap, "{covered}\n{names}\n")
+}
+
 // What the sheet printer writes of a sheet: its covered cells and its steps, or its refusal.
 pub fn sheet_report(heap: Global, bytes: &[u8]) -> Result<String, AllocError>
     ensures { λ r. ⌜ made r (λ s. Reports (now (bytes .entry)) (string-bytes s)) ⌝ }
@@ -52,14 +61,7 @@ pub fn sheet_report(heap: Global, bytes: &[u8]) -> Result<String, AllocError>
     let mut marks = [false; 64];
     let mut steps = [Step::Jump { to: 0 }; 1024];
     match convert(bytes, &mut lines, &mut marks, &mut steps) {
-        Ok(path) => {
-            let covered = covered_line(heap, &marks[0..path.sheet.cells])?;
-            let names = steps_line(heap, &steps[0..path.steps])?;
-            format!(heap, "{covered}\n{names}\n")
-        }
-        Err(fault) => {
-            let refusal = refusal_line(heap, fault.number(), fault.place())?;
-            format!(heap, "{refusal}\n")
-        }
+        Ok(path) => path_report(heap, &marks[0..path.sheet.cells], &steps[0..path.steps]),
+        Err(fault) => refusal_line(heap, fault.number(), fault.place()),
     }
 }
