@@ -2,7 +2,7 @@
 ghost use mathlib.Core.Path.{_≡_};
 ghost use mathlib.Core.Bool.{true, false};
 ghost use Prim.Native.Nat.{ℕ, _+_, _*_, _<_, _≤_};
-ghost use lib.ListN.{length, getD, set, take, drop};
+ghost use lib.ListN.{length, set, take, drop};
 ghost use Rattle.sheet.specs.Code.{Code, Keeps};
 ghost use Rattle.sheet.specs.Layout.{Rising};
 ghost use Rattle.sheet.specs.Spans.{Spans, endOf};

@@ -2,6 +2,7 @@
 ghost use lib.Count.{ones};
 ghost use Rattle.marking.specs.Sets.{noOrigins, ownOrigin, union};
 use super::Origins;
+use super::bit_of;
 use crate::kinds::Mark;
 
 pub impl Mark for Origins as OriginSet {
@@ -20,8 +21,7 @@ pub impl Mark for Origins as OriginSet {
     }
 
     fn own(cell: u8) -> Origins {
-        let members = if cell < 64 { 1 << cell } else { 0 };
-        Origins::of(members)
+        Origins::of(bit_of(cell))
     }
 
     fn join(self, other: Origins) -> Origins {
@@ -29,6 +29,6 @@ pub impl Mark for Origins as OriginSet {
     }
 
     fn at_least(self, other: Origins) -> bool {
-        self.members | other.members == self.members
+        self.join(other).same_as(self)
     }
 }

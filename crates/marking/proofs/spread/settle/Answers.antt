@@ -17,6 +17,18 @@ laws g =
     let met = g .M·Mark·met in
     record { assoc = met .assoc; comm = met .comm; idem = met .idem; neutral = met .neutral; rises = met .rises; tops = met .tops }
 
+pub returns : need.returns
+returns g c =
+    let ts = c .loop-passes .marks in
+    let most = total-most (laws g) ts in
+    let long : length ts ≡ length (c .args .marks .now) = c .loop-passes .kept .marks ∙ c .start .kept .marks in
+    record {
+      least =
+          least-end (laws g) (g .M·Mark .owned) (c .args .marked .now) (c .args .lines .now) (c .args .count) ts (c .spread-block .last .marks) _ _ (c .none .ensures)
+          (c .spread-block .ensures) (c .loop-passes .inv .1) (c .loop-passes-test .left) (c .loop-passes .inv .0);
+      passes = subst (λ n. c .loop-passes .passes ≤ g .M·Mark .height * n + 1) long (omega (arith, most, c .loop-passes .inv .2));
+    }
+
 pub add-passes : need.add-passes
 add-passes g c =
     let n = length (c .loop-passes .marks) in
@@ -43,15 +55,3 @@ loop-passes-again g c =
       pass-under (laws g) (g .M·Mark .owned) (c .args .marked .now) (c .args .lines .now) (c .args .count) ts us _ _ (c .none .ensures) d (c .loop-passes .inv .1),
       omega (arith, d .moved .more (c .loop-passes-test .taken), c .loop-passes .inv .2),
     )
-
-pub returns : need.returns
-returns g c =
-    let ts = c .loop-passes .marks in
-    let most = total-most (laws g) ts in
-    let long : length ts ≡ length (c .args .marks .now) = c .loop-passes .kept .marks ∙ c .start .kept .marks in
-    record {
-      least =
-          least-end (laws g) (g .M·Mark .owned) (c .args .marked .now) (c .args .lines .now) (c .args .count) ts (c .spread-block .last .marks) _ _ (c .none .ensures)
-          (c .spread-block .ensures) (c .loop-passes .inv .1) (c .loop-passes-test .left) (c .loop-passes .inv .0);
-      passes = subst (λ n. c .loop-passes .passes ≤ g .M·Mark .height * n + 1) long (omega (arith, most, c .loop-passes .inv .2));
-    }

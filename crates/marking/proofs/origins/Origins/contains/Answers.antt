@@ -5,14 +5,8 @@ use native.Mathlib.Omega.{arith}
 use native.Mathlib.Nat.{div-eq-of-lt}
 use lib.Dec.{ltb}
 use lib.Pow.{pow-mono}
-use Rattle.std.proofs.shelf.Bits.{and-mask}
-use Rattle.std.proofs.shelf.Tests.{eqb-true, eqb-false, ltb-true}
+use Rattle.std.proofs.shelf.Tests.{ltb-true}
 use Rattle.marking.proofs.origins.Origins.contains.Needs as need
-
-pub returns-then-cell-lt64 : need.returns-then-cell-lt64
-returns-then-cell-lt64 c =
-    let low = and-mask (c .args .self .now .members / 2 ^ c .args .cell) 1 in
-    record { yes = λ e. sym low ∙ eqb-true _ _ e; no = λ e h. eqb-false _ _ e (low ∙ h) }
 
 pub returns-else-cell-lt64 : need.returns-else-cell-lt64
 returns-else-cell-lt64 c =

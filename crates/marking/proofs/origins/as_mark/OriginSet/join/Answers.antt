@@ -1,5 +1,0 @@
-use Rattle.marking.proofs.Unions.{same-set}
-use Rattle.marking.proofs.origins.as_mark.OriginSet.join.Needs as need
-
-pub returns : need.returns
-returns c = same-set _ _ (c .of .ensures)
