@@ -1,5 +1,4 @@
 -- The rules under a joined mark, and under the condition cells that it is joined of.
-use mathlib.Core.Path.{_≡_}
 use mathlib.Core.List.{List, [], _∷_}
 use Prim.Native.Nat.{ℕ}
 use Rattle.sheet.specs.Code.{Code, stop, work, literal, choose, repeat}

@@ -1,5 +1,5 @@
 -- The order of marks that comes from their join.
-use mathlib.Core.Path.{_≡_, refl, sym, _∙_, ap}
+use mathlib.Core.Path.{_≡_, sym, _∙_, ap}
 use mathlib.Core.Logic.{_≢_}
 use Prim.Native.Nat.{ℕ, _<_, _≤_}
 use Rattle.marking.specs.Rules.{AtLeast}

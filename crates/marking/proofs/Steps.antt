@@ -1,14 +1,14 @@
 -- A pass, line by line.
-use mathlib.Core.Path.{_≡_, refl, sym, _∙_, ap, subst}
+use mathlib.Core.Path.{_≡_, sym, _∙_, ap, subst}
 use mathlib.Core.Bool.{Bool, true, false, _||_}
-use mathlib.Core.List.{List, [], _∷_}
-use Prim.Native.Nat.{ℕ, _+_, _<_, _≤_}
-use lib.ListN.{getD, length, set}
+use mathlib.Core.List.{List}
+use Prim.Native.Nat.{ℕ, _+_, _<_}
+use lib.ListN.{length, set}
 use Rattle.std.proofs.shelf.Tests.{or-parts}
-use Rattle.sheet.specs.Code.{Code, stop, work, literal, choose, repeat}
+use Rattle.sheet.specs.Code.{Code}
 use Rattle.sheet.specs.Spans.{lineAt, Spans, endOf}
 use Rattle.sheet.specs.declared.lines.Line.{Line}
-use Rattle.sheet.specs.declared.lines.Line.the-variants.{Work, Literal, If, Else, End, Loop}
+use Rattle.sheet.specs.declared.lines.Line.the-variants.{Work, Literal, If, Loop}
 use Rattle.sheet.proofs.Heads.{spans-none, at-work, at-literal, at-if, at-loop}
 use Rattle.marking.specs.Rules.{AtLeast}
 use Rattle.marking.specs.Spread.{marking, Below, FollowsUnder, Moved, Passed}

@@ -1,8 +1,8 @@
 -- What the first line of code over so many cells says: which cells it names, and which lines are code again.
-use mathlib.Core.Path.{_≡_, refl, sym, _∙_, ap, subst}
+use mathlib.Core.Path.{_≡_, sym, _∙_, ap, subst}
 use mathlib.Core.List.{List}
 use Prim.Native.Nat.{ℕ, _+_, _-_, _<_, _≤_}
-use Rattle.sheet.specs.Code.{Code, work, literal, choose, repeat, Keeps}
+use Rattle.sheet.specs.Code.{Keeps}
 use Rattle.sheet.specs.Spans.{lineAt, Spans, endOf}
 use Rattle.sheet.specs.declared.lines.Line.{Line}
 use Rattle.sheet.specs.declared.lines.Line.the-variants.{Work, Literal, If, Else, End, Loop}

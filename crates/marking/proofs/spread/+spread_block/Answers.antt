@@ -1,10 +1,10 @@
-use mathlib.Core.Path.{_≡_, refl, sym, _∙_, ap, subst}
+use mathlib.Core.Path.{_≡_, refl, sym, subst}
 use mathlib.Core.Bool.{Bool, false, _||_}
-use Prim.Native.Nat.{_+_, _<_, _≤_}
+use Prim.Native.Nat.{_+_, _<_}
 use native.Mathlib.Omega.{arith}
 use borrow.Author.Needs.{needs}
 use lib.ListN.{length}
-use Rattle.marking.specs.Spread.{marking, Reads, Passed}
+use Rattle.marking.specs.Spread.{Reads, Passed}
 use Rattle.marking.proofs.Order.{Laws}
 use Rattle.marking.proofs.Views.{reads-work, reads-literal, reads-if, reads-loop, no-else, no-end}
 use Rattle.marking.proofs.Steps.{Raised, or-more, or-none, pass-none, pass-work, pass-literal, pass-if, pass-loop}

@@ -1,8 +1,7 @@
-use mathlib.Core.Path.{_≡_, refl, sym, _∙_, ap, subst}
+use mathlib.Core.Path.{_≡_, sym, _∙_, subst}
 use Prim.Native.Nat.{_+_, _*_, _≤_}
 use native.Mathlib.Omega.{arith}
 use lib.ListN.{length, take, drop}
-use mathlib.Core.List.{_++_}
 use Rattle.std.proofs.shelf.Lists.{length-take-le, length-append, length-drop, take-at, drop-at}
 use Rattle.sheet.specs.Code.{Keeps}
 use Rattle.sheet.specs.Layout.{Rising}

@@ -1,13 +1,13 @@
-use mathlib.Core.Path.{_≡_, refl, sym, _∙_, ap, subst}
-use mathlib.Core.Logic.{_⊎_, inl, inr}
-use Prim.Native.Nat.{ℕ, _+_, _<_, _≤_}
+use mathlib.Core.Path.{_≡_, sym, subst}
+use mathlib.Core.Logic.{inl, inr}
+use Prim.Native.Nat.{ℕ}
 use native.Mathlib.Omega.{arith}
 use borrow.Author.Count.{below-none, below-more}
 use lib.ListN.{getD, length}
 use Rattle.std.proofs.shelf.Lists.{getD-past}
 use Rattle.std.proofs.shelf.Tests.{cases-lt}
 use Rattle.marking.specs.Rules.{AtLeast}
-use Rattle.marking.specs.Spread.{marking, Moved}
+use Rattle.marking.specs.Spread.{marking}
 use Rattle.marking.proofs.Order.{Laws, above-none, above-trans}
 use Rattle.marking.proofs.Tables.{raised-has}
 use Rattle.marking.proofs.Steps.{Raised, raise-moved, raise-below}

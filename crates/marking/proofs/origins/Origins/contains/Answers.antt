@@ -1,9 +1,7 @@
-use mathlib.Core.Path.{_≡_, sym, _∙_}
-use mathlib.Core.Bool.{true}
-use Prim.Native.Nat.{ℕ, _/_, _%_, _^_, _<_, _≤_}
+use mathlib.Core.Path.{_≡_}
+use Prim.Native.Nat.{_/_, _^_, _≤_}
 use native.Mathlib.Omega.{arith}
 use native.Mathlib.Nat.{div-eq-of-lt}
-use lib.Dec.{ltb}
 use lib.Pow.{pow-mono}
 use Rattle.std.proofs.shelf.Tests.{ltb-true}
 use Rattle.marking.proofs.origins.Origins.contains.Needs as need

@@ -1,4 +1,3 @@
-use mathlib.Core.Path.{ap}
 use lib.Bits.{or-comm, or-self}
 use lib.Count.{ones-le}
 use Rattle.marking.proofs.Unions.{same-set, or-assoc, ones-rise}
