@@ -124,6 +124,15 @@ fn start<M: Mark>(marked: &[u8], marks: &mut [M])
     }
 }
 
+// Goes once through all the lines. Says whether any mark rose.
+fn pass<M: Mark>(lines: &[Line], count: usize, marks: &mut [M]) -> bool
+    requires reads { ⌜ Reads (now lines) (length (now marks)) 0 count ⌝ }
+    requires inside { ⌜ count ≤ length (now lines) ⌝ }
+    ensures { λ r. ⌜ Passed joined unmarked rank (now (lines .entry)) 0 count unmarked (now (marks .entry)) (now (marks .exit)) r ⌝ }
+{
+    spread_block(lines, 0, count, M::none(), marks)
+}
+
 // Starts from the own marks and goes through the lines until no mark rises. Returns how often it went through them.
 fn settle<M: Mark>(lines: &[Line], count: usize, marked: &[u8], marks: &mut [M]) -> usize
     requires reads { ⌜ Reads (now lines) (length (now marks)) 0 count ⌝ }
@@ -135,7 +144,7 @@ fn settle<M: Mark>(lines: &[Line], count: usize, marked: &[u8], marks: &mut [M])
 {
     start(marked, marks);
     let mut passes = 1;
-    while spread_block(lines, 0, count, M::none(), marks) {
+    while pass(lines, count, marks) {
         passes += 1;
     }
     passes

@@ -27,5 +27,11 @@ told bs text p laid before marks c k e l table steps n s none h =
     let all : n - 0 ≡ n = omega arith in
     let listed : take (n - 0) steps ≡ ss = ap (λ y. take y steps) all ∙ ap (take n) (s .steps) ∙ take-at ss (drop n table) n (sym (s .number)) in
     subst (λ o. ReportsOf o bs text) none
-      (record { program = p; laid = laid; covered = cov; cells = length-take-le (p .cells) marks l; least = c .least;
-        says = h ∙ ap (λ y. pathText (take y marks) (take (n - 0) steps)) same ∙ ap (pathText cov) listed })
+    (record {
+      program = p;
+      laid = laid;
+      covered = cov;
+      cells = length-take-le (p .cells) marks l;
+      least = c .least;
+      says = h ∙ ap (λ y. pathText (take y marks) (take (n - 0) steps)) same ∙ ap (pathText cov) listed;
+    })

@@ -5,25 +5,25 @@ ghost use Rattle.std.specs.Of.String.{string-bytes};
 ghost use Rattle.std.specs.Vec.{made};
 ghost use Rattle.report.specs.Reports.{Reports};
 ghost use Rattle.report.specs.Texts.{refusalText, coveredText, stepsText, pathText};
+
 mod origins;
-pub use origins::origin_line;
-pub use origins::origin_lines;
-pub use origins::origin_report;
+
 use onepath::Step;
 use onepath::convert;
+pub use origins::origin_report;
 use sheet::Line;
 use std::alloc::AllocError;
 use std::alloc::Global;
 
 // The line for a refusal.
-pub fn refusal_line(heap: Global, number: u32, place: usize) -> Result<String, AllocError>
+pub(crate) fn refusal_line(heap: Global, number: u32, place: usize) -> Result<String, AllocError>
     ensures { λ r. ⌜ made r (λ s. string-bytes s ≡ refusalText number place) ⌝ }
 {
     format!(heap, "refused {number} at {place}\n")
 }
 
 // The line that names the covered cells.
-pub fn covered_line(heap: Global, marks: &[bool]) -> Result<String, AllocError>
+fn covered_line(heap: Global, marks: &[bool]) -> Result<String, AllocError>
     ensures { λ r. ⌜ made r (λ s. string-bytes s ≡ coveredText (now (marks .entry))) ⌝ }
 {
     let mut text = String::from_str(heap, "covered")?;
@@ -37,7 +37,7 @@ pub fn covered_line(heap: Global, marks: &[bool]) -> Result<String, AllocError>
 }
 
 // The line that names the steps.
-pub fn steps_line(heap: Global, steps: &[Step]) -> Result<String, AllocError>
+fn steps_line(heap: Global, steps: &[Step]) -> Result<String, AllocError>
     ensures { λ r. ⌜ made r (λ s. string-bytes s ≡ stepsText (now (steps .entry))) ⌝ }
 {
     let mut text = String::from_str(heap, "steps")?;
@@ -49,7 +49,7 @@ pub fn steps_line(heap: Global, steps: &[Step]) -> Result<String, AllocError>
 }
 
 // The two lines that are printed of a sheet that was converted.
-pub fn path_report(heap: Global, marks: &[bool], steps: &[Step]) -> Result<String, AllocError>
+fn path_report(heap: Global, marks: &[bool], steps: &[Step]) -> Result<String, AllocError>
     ensures { λ r. ⌜ made r (λ s. string-bytes s ≡ pathText (now (marks .entry)) (now (steps .entry))) ⌝ }
 {
     let covered = covered_line(heap, marks)?;

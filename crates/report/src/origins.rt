@@ -14,7 +14,7 @@ use std::alloc::AllocError;
 use std::alloc::Global;
 
 // The cell and the members of its origin set.
-pub fn origin_line(heap: Global, cell: usize, origins: &Origins) -> Result<String, AllocError>
+fn origin_line(heap: Global, cell: usize, origins: &Origins) -> Result<String, AllocError>
     ensures { λ r. ⌜ made r (λ s. string-bytes s ≡ originText cell (now (origins .entry))) ⌝ }
 {
     let mut text = format!(heap, "cell {cell}:")?;
@@ -28,7 +28,7 @@ pub fn origin_line(heap: Global, cell: usize, origins: &Origins) -> Result<Strin
 }
 
 // A line for each cell.
-pub fn origin_lines(heap: Global, sets: &[Origins]) -> Result<String, AllocError>
+fn origin_lines(heap: Global, sets: &[Origins]) -> Result<String, AllocError>
     ensures { λ r. ⌜ made r (λ s. string-bytes s ≡ originLines 0 (now (sets .entry))) ⌝ }
 {
     let mut text = String::new(heap);

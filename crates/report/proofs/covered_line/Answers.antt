@@ -20,10 +20,11 @@ loop-cell-again c =
     let i = c .loop-cell .cell-counter in
     let rest = coveredFrom (i + 1) (drop (i + 1) ms) in
     elim (c .if-mark .came) [
-      then-mark·in-Continue-item·in-Continue-push-str w ↦
-        ap (λ y. string-bytes y ++ rest) (w .text-is)
-        ∙ cell-more t (string-bytes (w .push-str .last .self)) (w .as-str .result .now) ms i (omega arith) (w .if-mark .taken) (w .as-str .ensures .value ∙ w .in-Continue-item .ensures tt .made) (w .in-Continue-push-str .ensures tt .bytes) ∙ c .loop-cell .inv
-    | else-mark w ↦ ap (λ y. string-bytes y ++ rest) (w .text-is) ∙ cell-none t ms i (omega arith) (w .if-mark .left) ∙ c .loop-cell .inv ]
+      | then-mark·in-Continue-item·in-Continue-push-str w ↦
+          ap (λ y. string-bytes y ++ rest) (w .text-is)
+          ∙ cell-more t (string-bytes (w .push-str .last .self)) (w .as-str .result .now) ms i (omega arith) (w .if-mark .taken) (w .as-str .ensures .value ∙ w .in-Continue-item .ensures tt .made) (w .in-Continue-push-str .ensures tt .bytes) ∙ c .loop-cell .inv
+      | else-mark w ↦ ap (λ y. string-bytes y ++ rest) (w .text-is) ∙ cell-none t ms i (omega arith) (w .if-mark .left) ∙ c .loop-cell .inv
+    ]
 
 pub returns : need.returns
 returns c =

@@ -18,7 +18,7 @@ returns-in-Ok c =
     let long : length (c .convert .last .marks) ≡ 64 = w .4 .long in
     let path = c .in-Ok .path in
     made-weaker (c .path-report .result)
-      (λ s. string-bytes s ≡ pathText (take (path .sheet .cells - 0) (c .convert .last .marks)) (take (path .steps - 0) (c .convert .last .steps)))
-      (λ s. Reports (c .args .bytes .now) (string-bytes s))
-      (λ s h. told (c .args .bytes .now) (string-bytes s) p (w .1) _ (c .convert .last .marks) (w .4) (path .sheet .cells) (w .2 .cells) (omega arith) _ (c .convert .last .steps) (path .steps) (w .5) (v .first) h)
-      (c .path-report .ensures)
+    (λ s. string-bytes s ≡ pathText (take (path .sheet .cells - 0) (c .convert .last .marks)) (take (path .steps - 0) (c .convert .last .steps)))
+    (λ s. Reports (c .args .bytes .now) (string-bytes s))
+    (λ s h. told (c .args .bytes .now) (string-bytes s) p (w .1) _ (c .convert .last .marks) (w .4) (path .sheet .cells) (w .2 .cells) (omega arith) _ (c .convert .last .steps) (path .steps) (w .5) (v .first) h)
+    (c .path-report .ensures)

@@ -13,7 +13,7 @@ loop-step-holds c = ap (λ y. y ++ stepNames (c .args .steps .now)) (c .in-Conti
 pub loop-step-again : need.loop-step-again
 loop-step-again c =
     step-more (string-bytes (c .loop-step .text)) (string-bytes (c .push-str .last .self)) (string-bytes (c .push-str-in-loop-step .last .self)) (c .name .result .now)
-      (c .args .steps .now) (c .loop-step .step-index) (omega arith) (c .in-Continue-push-str .ensures tt .bytes) (c .name .ensures) (c .in-Continue-push-str-2 .ensures tt .bytes) ∙ c .loop-step .inv
+    (c .args .steps .now) (c .loop-step .step-index) (omega arith) (c .in-Continue-push-str .ensures tt .bytes) (c .name .ensures) (c .in-Continue-push-str-2 .ensures tt .bytes) ∙ c .loop-step .inv
 
 pub returns : need.returns
 returns c =

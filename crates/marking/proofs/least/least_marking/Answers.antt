@@ -25,8 +25,11 @@ mark-lines-passes-requires g c κs =
     let long = filled-long p (c .args .lines .now) (c .read .last .table) (w .3) in
     record {
       reads = (p .code, filled-spans p (c .args .lines .now) (c .read .last .table) (s .lines) (w .3) lines, subst (λ n. Keeps n 6 (p .code)) (sym cells) (law .keeps));
-      inside = omega arith; room = omega arith; few = omega arith;
-      rising = subst (λ n. Rising n 0 (s .marks .now)) (sym cells) (subst (λ ms. Rising (p .cells) 0 ms) (sym (w .2 .marks)) (law .rising)) }
+      inside = omega arith;
+      room = omega arith;
+      few = omega arith;
+      rising = subst (λ n. Rising n 0 (s .marks .now)) (sym cells) (subst (λ ms. Rising (p .cells) 0 ms) (sym (w .2 .marks)) (law .rising));
+    }
 
 pub returns : need.returns
 returns g c =
@@ -41,11 +44,20 @@ returns g c =
     let same′ = laid-cells (c .args .bytes .now) (f .program) (f .laid) in
     let room = f .cells in
     let least = m .least (p .code) (filled-spans p (c .args .lines .now) (c .read .last .table) (s .lines) (w .3) (w .2 .lines)) in
-    record { first = c .in-Continue-check-tables .ensures tt .first;
-      marks = (p, w .1, w .2, w .3,
+    record {
+      first = c .in-Continue-check-tables .ensures tt .first;
+      marks = (
+        p,
+        w .1,
+        w .2,
+        w .3,
         record {
           least = subst (λ n. Least (g .M·Mark .joined) (g .M·Mark .owned) (marking (g .M·Mark .unmarked) (take n after)) (p .marks) (p .code)) cells
-            (subst (λ ms. Least (g .M·Mark .joined) (g .M·Mark .owned) (marking (g .M·Mark .unmarked) (take (s .cells) after)) ms (p .code)) (w .2 .marks) least);
+              (subst (λ ms. Least (g .M·Mark .joined) (g .M·Mark .owned) (marking (g .M·Mark .unmarked) (take (s .cells) after)) ms (p .code)) (w .2 .marks) least);
           rest = subst (λ n. drop n after ≡ drop n (c .args .marks .now)) cells (m .rest);
-          long = m .long; room = omega arith;
-          few = subst (λ n. c .mark-lines-passes .result ≤ g .M·Mark .height * n + 1) cells (m .passes) }) }
+          long = m .long;
+          room = omega arith;
+          few = subst (λ n. c .mark-lines-passes .result ≤ g .M·Mark .height * n + 1) cells (m .passes);
+        },
+      );
+    }

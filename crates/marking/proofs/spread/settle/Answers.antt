@@ -1,4 +1,4 @@
-use mathlib.Core.Path.{_≡_, _∙_, subst}
+use mathlib.Core.Path.{_≡_, refl, _∙_, subst}
 use Prim.Native.Nat.{_+_, _*_, _^_, _<_, _≤_}
 use native.Mathlib.Omega.{arith}
 use borrow.Author.Needs.{needs}
@@ -24,8 +24,8 @@ returns g c =
     let long : length ts ≡ length (c .args .marks .now) = c .loop-passes .kept .marks ∙ c .start .kept .marks in
     record {
       least =
-          least-end (laws g) (g .M·Mark .owned) (c .args .marked .now) (c .args .lines .now) (c .args .count) ts (c .spread-block .last .marks) _ _ (c .none .ensures)
-          (c .spread-block .ensures) (c .loop-passes .inv .1) (c .loop-passes-test .left) (c .loop-passes .inv .0);
+          least-end (laws g) (g .M·Mark .owned) (c .args .marked .now) (c .args .lines .now) (c .args .count) ts (c .pass .last .marks) _ _ refl
+          (c .pass .ensures) (c .loop-passes .inv .1) (c .loop-passes-test .left) (c .loop-passes .inv .0);
       passes = subst (λ n. c .loop-passes .passes ≤ g .M·Mark .height * n + 1) long (omega (arith, most, c .loop-passes .inv .2));
     }
 
@@ -39,19 +39,19 @@ add-passes g c =
 
 pub loop-passes-less : need.loop-passes-less
 loop-passes-less g c =
-    let d = c .spread-block .ensures .moved in
-    let most = total-most (laws g) (c .spread-block .last .marks) in
-    let long : length (c .spread-block .last .marks) ≡ length (c .start .last .marks) = d .long ∙ c .loop-passes .kept .marks in
-    let most′ = subst (λ n. total (g .M·Mark .rank) (c .spread-block .last .marks) ≤ g .M·Mark .height * n) long most in
+    let d = c .pass .ensures .moved in
+    let most = total-most (laws g) (c .pass .last .marks) in
+    let long : length (c .pass .last .marks) ≡ length (c .start .last .marks) = d .long ∙ c .loop-passes .kept .marks in
+    let most′ = subst (λ n. total (g .M·Mark .rank) (c .pass .last .marks) ≤ g .M·Mark .height * n) long most in
     omega (arith, most′, d .more (c .loop-passes-test .taken))
 
 pub loop-passes-again : need.loop-passes-again
 loop-passes-again g c =
-    let d = c .spread-block .ensures in
+    let d = c .pass .ensures in
     let none = g .M·Mark .unmarked in
     let ts = c .loop-passes .marks in
-    let us = c .spread-block .last .marks in (
+    let us = c .pass .last .marks in (
       owns-more (g .M·Mark .joined) (g .M·Mark .owned) (laws g) (marking none ts) (marking none us) (d .moved .grown) (c .args .marked .now) (c .loop-passes .inv .0),
-      pass-under (laws g) (g .M·Mark .owned) (c .args .marked .now) (c .args .lines .now) (c .args .count) ts us _ _ (c .none .ensures) d (c .loop-passes .inv .1),
+      pass-under (laws g) (g .M·Mark .owned) (c .args .marked .now) (c .args .lines .now) (c .args .count) ts us _ _ refl d (c .loop-passes .inv .1),
       omega (arith, d .moved .more (c .loop-passes-test .taken), c .loop-passes .inv .2),
     )

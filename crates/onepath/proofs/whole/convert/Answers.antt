@@ -20,8 +20,12 @@ convert-lines-count-requires c κs =
     let room = f .steps in
     let short = w .1 .lawful .short in
     let long = filled-long p (c .args .lines .now) (c .least-marking .last .lines) (w .3) in
-    record { reads = (p .code, filled-spans p (c .args .lines .now) (c .least-marking .last .lines) (c .in-Continue-marked .marked .sheet .lines) (w .3) lines);
-      inside = omega arith; few = omega arith; room = omega arith }
+    record {
+      reads = (p .code, filled-spans p (c .args .lines .now) (c .least-marking .last .lines) (c .in-Continue-marked .marked .sheet .lines) (w .3) lines);
+      inside = omega arith;
+      few = omega arith;
+      room = omega arith;
+    }
 
 pub returns : need.returns
 returns c =
@@ -35,9 +39,18 @@ returns c =
     let spans = filled-spans p (c .args .lines .now) (c .least-marking .last .lines) (s .lines) (w .3) lines in
     let v = c .convert-lines-count .ensures in
     let same : s .cells - 0 ≡ p .cells = omega arith in
-    record { first = c .in-Continue-check-tables .ensures tt .first;
-      converts = (p, w .1, w .2, w .3, record { least = w .4 .least; rest = w .4 .rest; long = w .4 .long },
+    record {
+      first = c .in-Continue-check-tables .ensures tt .first;
+      converts = (
+        p,
+        w .1,
+        w .2,
+        w .3,
+        record { least = w .4 .least; rest = w .4 .rest; long = w .4 .long },
         record {
           steps = subst (λ k. c .convert-lines-count .last .steps ≡ stepsOf (coveredIn (take k marks)) 0 0 0 0 (p .code) ++ drop n (c .args .steps .now)) same (v .listed (p .code) spans);
           number = subst (λ k. n ≡ length (stepsOf (coveredIn (take k marks)) 0 0 0 0 (p .code))) same (v .number (p .code) spans);
-          most = let m = v .most in omega arith }) }
+          most = let m = v .most in omega arith;
+        },
+      );
+    }

@@ -16,10 +16,11 @@ loop-member-again c =
     let i = c .loop-member .member-counter in
     let rest = memberNames m (i + 1) (64 - (i + 1)) in
     elim (c .if-contains .came) [
-      then-contains·in-Continue-item·in-Continue-push-str w ↦
-        ap (λ y. string-bytes y ++ rest) (w .text-is)
-        ∙ member-more m i (omega arith) t (string-bytes (w .push-str .last .self)) (w .as-str .result .now) (w .if-contains .ensures tt .yes refl) (w .as-str .ensures .value ∙ w .in-Continue-item .ensures tt .made) (w .in-Continue-push-str .ensures tt .bytes) ∙ c .loop-member .inv
-    | else-contains w ↦ ap (λ y. string-bytes y ++ rest) (w .text-is) ∙ member-none m i (omega arith) t (w .if-contains .ensures tt .no refl) ∙ c .loop-member .inv ]
+      | then-contains·in-Continue-item·in-Continue-push-str w ↦
+          ap (λ y. string-bytes y ++ rest) (w .text-is)
+          ∙ member-more m i (omega arith) t (string-bytes (w .push-str .last .self)) (w .as-str .result .now) (w .if-contains .ensures tt .yes refl) (w .as-str .ensures .value ∙ w .in-Continue-item .ensures tt .made) (w .in-Continue-push-str .ensures tt .bytes) ∙ c .loop-member .inv
+      | else-contains w ↦ ap (λ y. string-bytes y ++ rest) (w .text-is) ∙ member-none m i (omega arith) t (w .if-contains .ensures tt .no refl) ∙ c .loop-member .inv
+    ]
 
 pub returns : need.returns
 returns c =

@@ -21,7 +21,7 @@ loop-cell-again c =
     let more : i < length ss = omega arith in
     let set : c .index-sets-cell .result ≡ getD ss i noOrigins = getD-read ss i (c .index-sets-cell .result) more (c .index-sets-cell .is) noOrigins in
     line-more (string-bytes (c .loop-cell .text)) (string-bytes (c .push-str .last .self)) (string-bytes (c .push-str-in-loop-cell .last .self)) (c .as-str .result .now) (codes "\n") ss i more
-      (c .as-str .ensures .value ∙ c .in-Continue-line .ensures tt ∙ ap (originText i) set) (c .in-Continue-push-str .ensures tt .bytes) refl (c .in-Continue-push-str-2 .ensures tt .bytes) ∙ c .loop-cell .inv
+    (c .as-str .ensures .value ∙ c .in-Continue-line .ensures tt ∙ ap (originText i) set) (c .in-Continue-push-str .ensures tt .bytes) refl (c .in-Continue-push-str-2 .ensures tt .bytes) ∙ c .loop-cell .inv
 
 pub returns : need.returns
 returns c =
