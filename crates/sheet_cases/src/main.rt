@@ -37,7 +37,12 @@ fn read_case(heap: Global, text: &str) -> Result<Case, AnyError> {
     for word in words {
         bytes.push(u8::from_str_radix(word, 16)?)?;
     }
-    Ok(Case { lines, marks, steps, bytes })
+    Ok(Case {
+        lines,
+        marks,
+        steps,
+        bytes,
+    })
 }
 
 fn outcome(heap: Global, case: &Case) -> Result<String, AllocError> {
