@@ -82,14 +82,18 @@ module _ (cells : ℕ) (bs : List ℕ) where
 
 -- the header's limits, where it has no fault
 limited : (bs : List ℕ) → limitFault (headerOf bs) ≡ None → (wordAt bs 2 ≤ 64) × (wordAt bs 4 ≤ 512)
-limited bs h =
-    let a₁ = unless-none _ _ _ h in
-    let a₂ = unless-none _ _ _ (a₁ .1) in
-    let a₃ = unless-none _ _ _ (a₂ .1) in
-    let a₄ = unless-none _ _ _ (a₃ .1) in
-    let l₂ = leb-true (wordAt bs 0) 64 (a₂ .0) in
-    let l₃ = leb-true (wordAt bs 2) (wordAt bs 0) (a₃ .0) in
-    (omega (arith, l₂, l₃), leb-true (wordAt bs 4) 512 (a₄ .0))
+limited bs e =
+    let h = headerOf bs in
+    let r₄ = unless (ltb (h .verdict) (h .cells)) (Limit 6) None in
+    let r₃ = unless (leb (h .lines) 512) (Limit 4) r₄ in
+    let r₂ = unless (leb (h .marked) (h .cells)) (Limit 2) r₃ in
+    let a₁ = unless-none (leb 1 (h .cells)) (Limit 0) (unless (leb (h .cells) 64) (Limit 0) r₂) e in
+    let a₂ = unless-none (leb (h .cells) 64) (Limit 0) r₂ (a₁ .1) in
+    let a₃ = unless-none (leb (h .marked) (h .cells)) (Limit 2) r₃ (a₂ .1) in
+    let a₄ = unless-none (leb (h .lines) 512) (Limit 4) r₄ (a₃ .1) in
+    let l₂ = leb-true (h .cells) 64 (a₂ .0) in
+    let l₃ = leb-true (h .marked) (h .cells) (a₃ .0) in
+    (omega (arith, l₂, l₃), leb-true (h .lines) 512 (a₄ .0))
 
 near-limits : (bs : List ℕ) → Near (limitFault (headerOf bs)) 4174
 near-limits bs =

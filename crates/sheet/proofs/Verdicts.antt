@@ -53,6 +53,9 @@ module _ (bs : List ℕ) (p : Program) (laid : Laid bs p) where
   pub laid-cells : wordAt bs 0 ≡ p .cells
   laid-cells = ap (λ y. wordAt y 0) (laid .bytes) ∙ word-of (p .cells)
 
+  pub laid-marked : wordAt bs 2 ≡ length (p .marks)
+  laid-marked = ap (λ y. wordAt y 2) (laid .bytes) ∙ word-of (length (p .marks))
+
   pub laid-lines : wordAt bs 4 ≡ sizeOf (p .code)
   laid-lines = ap (λ y. wordAt y 4) (laid .bytes) ∙ word-of (sizeOf (p .code))
 

@@ -3,8 +3,10 @@ ghost use mathlib.Core.Path.{_≡_};
 ghost use Prim.Native.Nat.{ℕ, _+_, _*_, _<_, _≤_};
 ghost use lib.ListN.{length, getD};
 ghost use Rattle.std.specs.Results.{Cases};
+ghost use Rattle.std.specs.declared.result.Result.the-variants.{Ok};
 ghost use Rattle.sheet.specs.Checks.{headerOf, sheetFault, readFault};
-ghost use Rattle.sheet.specs.Reading.{Taken, Fits, Reads};
+ghost use Rattle.sheet.specs.Layout.{Program};
+ghost use Rattle.sheet.specs.Reading.{Laid, Taken, Fits, Filled, Reads};
 ghost use Rattle.sheet.specs.Refusals.{placeOf};
 ghost use Rattle.sheet.specs.Results.{found, Bytes};
 use crate::checking::check_limits;
@@ -61,12 +63,20 @@ pub fn check_table(bytes: &[u8], room: usize) -> Result<Sheet<'_>, ReadFault>
     Ok(sheet)
 }
 
+// Fills the line table of a sheet that was checked.
+fn fill(bytes: &[u8], sheet: Sheet<'_>, table: &mut [Line])
+    requires { ⌜ Fits (now bytes) (length (now table)) (Ok sheet) ⌝ }
+    ensures { λ _. ⌜ ((p : Program) → Laid (now (bytes .entry)) p → Filled p (now (table .entry)) (now (table .exit))) ⌝ }
+{
+    fill_block(bytes, 14 + sheet.marks.len(), sheet.lines, 0, table);
+}
+
 // Reads a sheet into the line table, which begins with its lines then, or answers the first fault.
 pub fn read<'a>(bytes: &'a [u8], table: &mut [Line]) -> Result<Sheet<'a>, ReadFault>
     ensures first { λ r. ⌜ found r ≡ readFault (now (bytes .entry)) (length (now (table .entry))) ⌝ }
     ensures reads { λ r. ⌜ Reads (now (bytes .entry)) (now (table .entry)) (now (table .exit)) r ⌝ }
 {
     let sheet = check_table(bytes, table.len())?;
-    fill_block(bytes, 14 + sheet.marks.len(), sheet.lines, 0, table);
+    fill(bytes, sheet, table);
     Ok(sheet)
 }
