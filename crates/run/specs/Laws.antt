@@ -1,0 +1,28 @@
+-- What ties the two forms of a sheet.
+use mathlib.Core.Path.{_≡_}
+use mathlib.Core.Bool.{Bool}
+use mathlib.Core.Logic.{_⊎_}
+use mathlib.Core.List.{List}
+use Prim.Native.Nat.{ℕ}
+use lib.ListN.{length}
+use Rattle.std.specs.declared.option.Option.{Option}
+use Rattle.std.specs.declared.option.Option.the-variants.{Some, None}
+use Rattle.sheet.specs.Code.{Code, Keeps}
+use Rattle.onepath.specs.Listed.{stepsOf}
+use Rattle.run.specs.Values.{Values}
+use Rattle.run.specs.Branching.{Out, went, broke, branching}
+use Rattle.run.specs.Machine.{State, steps, fresh}
+
+-- The one path came to what the branching run comes to: to its end, with its cells and nothing latched, or to a
+-- break or an end that blames the line at which the branching run breaks. A latch comes before a break.
+abbrev pub ComesTo : ℕ → Out → State → Type 0
+ComesTo end (went w) s =
+    (s .track .place ≡ end) × (s .cells ≡ w) × (s .track .latch ≡ None) × (s .track .broken ≡ None)
+ComesTo end (broke l w) s =
+    ((s .track .latch ≡ Some l) × ((s .track .place ≡ end) ⊎ ((m : ℕ) × (s .track .broken ≡ Some m)))) ⊎ ((s .track .latch ≡ None) × (s .track .broken ≡ Some l))
+
+-- Agreement: from any cells, whatever is covered, the one path comes to what the branching run comes to.
+abbrev pub Agreement : Type 0
+Agreement =
+    (v : Values) (covered : ℕ → Bool) (cells : ℕ) (code : Code) (w : List ℕ) → Keeps cells 6 code →
+    (n : ℕ) × ComesTo (length (stepsOf covered 0 0 0 0 code)) (branching v code 0 w) (steps v (stepsOf covered 0 0 0 0 code) n (fresh w))

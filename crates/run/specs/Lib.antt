@@ -1,0 +1,4 @@
+pub mod Values
+pub mod Branching
+pub mod Machine
+pub mod Laws
