@@ -1,4 +1,5 @@
 pub mod Values
 pub mod Branching
 pub mod Machine
+pub mod Moves
 pub mod Laws

@@ -1,6 +1,6 @@
 -- The step machine: what each step of the one path does.
 use mathlib.Core.Bool.{Bool, true, false, cond, not, _&&_, _||_}
-use mathlib.Core.List.{List}
+use mathlib.Core.List.{List, map}
 use Prim.Native.Nat.{ℕ, zero, suc, min, _+_, _-_}
 use lib.Dec.{eqb, leb, ltb}
 use lib.ListN.{getD, set, length, replicate}
@@ -10,6 +10,7 @@ use Rattle.std.specs.declared.option.Option.the-variants.{Some, None}
 use Rattle.onepath.specs.Holds.{stepAt}
 use Rattle.onepath.specs.declared.steps.Step.{Step}
 use Rattle.onepath.specs.declared.steps.Step.the-variants.{Work, Literal, Ask, Turn, Setout, Narrow, Again, Close, Branch, Jump, Enter, Test}
+use Rattle.value.specs.declared.kinds.Value.{Ghosts}
 use Rattle.run.specs.Values.{Values, isTrue, worked, stated}
 use Rattle.run.specs.declared.registers.Registers.{Registers}
 use Rattle.run.specs.declared.track.Track.{Track}
@@ -99,3 +100,7 @@ cleared = record { flags = replicate 7 false; guards = replicate 7 false; counte
 -- a run before its first step
 abbrev pub fresh : List ℕ → State
 fresh w = at 0 cleared None w
+
+-- the run that a track and the cells of a kind of values are
+abbrev pub stateOf : {V : Type 0} → Ghosts V → Track → List V → State
+stateOf g t cs = record { track = t; cells = map (g .meaning) cs }

@@ -1,6 +1,12 @@
 // Running a sheet, in both its forms.
+mod cells;
+mod levels;
+mod machine;
+mod moves;
 mod registers;
+mod slots;
 mod track;
 
+pub use machine::step;
 pub use registers::Registers;
 pub use track::Track;

@@ -1,0 +1,97 @@
+// The step machine.
+ghost use mathlib.Core.Path.{_≡_};
+ghost use mathlib.Core.List.{map};
+ghost use Prim.Native.Nat.{_+_};
+ghost use Rattle.std.specs.declared.option.Option.the-variants.{None};
+ghost use Rattle.run.specs.Machine.{act as acted, next, stateOf};
+ghost use Rattle.run.specs.Values.{kindOf};
+use crate::cells::is_true;
+use crate::cells::state;
+use crate::cells::work;
+use crate::track::Track;
+use onepath::Step;
+use value::Value;
+
+// Takes the step, which stands at the track's place; `after` is the place after it.
+fn act<V: Value>(step: Step, after: usize, track: &mut Track, cells: &mut [V])
+    requires place { ⌜ after ≡ now track .place + 1 ⌝ }
+    requires whole { ⌜ now track .broken ≡ None ⌝ }
+    ensures { λ _. ⌜ stateOf V·Value (now (track .exit)) (now (cells .exit)) ≡ acted (kindOf V·Value) step (now (track .entry) .place) (now (track .entry) .registers) (now (track .entry) .latch) (map (V·Value .meaning) (now (cells .entry))) ⌝ }
+{
+    match step {
+        Step::Work {
+            level,
+            target,
+            op,
+            a,
+            b,
+        } => {
+            if track.registers.guard(level) {
+                work(cells, target, op, a, b);
+            }
+            track.place = after;
+        }
+        Step::Literal {
+            level,
+            target,
+            number,
+        } => {
+            if track.registers.guard(level) {
+                state(cells, target, number);
+            }
+            track.place = after;
+        }
+        Step::Ask { level, cell } => {
+            track.registers.ask(level, is_true(cells, cell));
+            track.place = after;
+        }
+        Step::Turn { level } => {
+            track.registers.turn(level);
+            track.place = after;
+        }
+        Step::Setout { level } => {
+            track.registers.setout(level);
+            track.place = after;
+        }
+        Step::Narrow { level, cell } => {
+            let q = track.registers.flag(level) && is_true(cells, cell);
+            track.registers.ask(level, q);
+            track.place = after;
+        }
+        Step::Again { level, bound, to } => {
+            let passes = track.registers.count_pass(level);
+            track.place = if passes < bound { to } else { after };
+        }
+        Step::Close { level, cell, line } => {
+            track.close(level, is_true(cells, cell), line);
+            track.place = after;
+        }
+        Step::Branch { cell, to } => track.place = if is_true(cells, cell) { after } else { to },
+        Step::Jump { to } => track.place = to,
+        Step::Enter { counter } => {
+            track.registers.set_loop(counter, 0);
+            track.place = after;
+        }
+        Step::Test {
+            counter,
+            cell,
+            bound,
+            to,
+            line,
+        } => {
+            let go_on = is_true(cells, cell);
+            track.test(counter, go_on, bound, after, to, line);
+        }
+    }
+}
+
+// Takes one step, unless the run is over.
+pub fn step<V: Value>(track: &mut Track, steps: &[Step], cells: &mut [V])
+    ensures { λ _. ⌜ stateOf V·Value (now (track .exit)) (now (cells .exit)) ≡ next (kindOf V·Value) (now (steps .entry)) (stateOf V·Value (now (track .entry)) (now (cells .entry))) ⌝ }
+{
+    let place = track.place;
+    if track.broken.is_some() || place >= steps.len() {
+        return;
+    }
+    act(steps[place], place + 1, track, cells);
+}
