@@ -93,6 +93,11 @@ abbrev pub steps : Values → List Step → ℕ → State → State
 steps v ts zero s = s
 steps v ts (suc n) s = steps v ts n (next v ts s)
 
+-- how many of n steps are taken before the run is over
+abbrev pub taken : Values → List Step → ℕ → State → ℕ
+taken v ts zero s = 0
+taken v ts (suc n) s = cond (isOver (length ts) s) 0 (1 + taken v ts n (next v ts s))
+
 -- nothing is set
 abbrev pub cleared : Registers
 cleared = record { flags = replicate 7 false; guards = replicate 7 false; counters = replicate 7 0; loops = replicate 6 0 }

@@ -7,6 +7,8 @@ mod registers;
 mod slots;
 mod track;
 
+pub use machine::is_over;
+pub use machine::run_steps;
 pub use machine::step;
 pub use registers::Registers;
 pub use track::Track;

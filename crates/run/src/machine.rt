@@ -1,9 +1,12 @@
 // The step machine.
 ghost use mathlib.Core.Path.{_≡_};
+ghost use mathlib.Core.Bool.{_||_};
 ghost use mathlib.Core.List.{map};
 ghost use Prim.Native.Nat.{_+_};
+ghost use lib.Dec.{leb};
+ghost use Rattle.std.specs.Options.{isSome};
 ghost use Rattle.std.specs.declared.option.Option.the-variants.{None};
-ghost use Rattle.run.specs.Machine.{act as acted, next, stateOf};
+ghost use Rattle.run.specs.Machine.{act as acted, next, steps as stepped, taken, stateOf};
 ghost use Rattle.run.specs.Values.{kindOf};
 use crate::cells::is_true;
 use crate::cells::state;
@@ -85,6 +88,13 @@ fn act<V: Value>(step: Step, after: usize, track: &mut Track, cells: &mut [V])
     }
 }
 
+// Whether a run of so many steps broke or has none left.
+pub fn is_over(track: &Track, count: usize) -> bool
+    ensures { λ r. ⌜ r ≡ (isSome (now (track .entry) .broken) || leb count (now (track .entry) .place)) ⌝ }
+{
+    track.broken.is_some() || count <= track.place
+}
+
 // Takes one step, unless the run is over.
 pub fn step<V: Value>(track: &mut Track, steps: &[Step], cells: &mut [V])
     ensures { λ _. ⌜ stateOf V·Value (now (track .exit)) (now (cells .exit)) ≡ next (kindOf V·Value) (now (steps .entry)) (stateOf V·Value (now (track .entry)) (now (cells .entry))) ⌝ }
@@ -94,4 +104,18 @@ pub fn step<V: Value>(track: &mut Track, steps: &[Step], cells: &mut [V])
         return;
     }
     act(steps[place], place + 1, track, cells);
+}
+
+// Takes at most `budget` steps; answers how many it took before the run was over.
+pub fn run_steps<V: Value>(track: &mut Track, steps: &[Step], cells: &mut [V], budget: u32) -> u32
+    ensures state { λ _. ⌜ stateOf V·Value (now (track .exit)) (now (cells .exit)) ≡ stepped (kindOf V·Value) (now (steps .entry)) budget (stateOf V·Value (now (track .entry)) (now (cells .entry))) ⌝ }
+    ensures count { λ r. ⌜ r ≡ taken (kindOf V·Value) (now (steps .entry)) budget (stateOf V·Value (now (track .entry)) (now (cells .entry))) ⌝ }
+{
+    for done in 0..budget {
+        if is_over(track, steps.len()) {
+            return done;
+        }
+        step(track, steps, cells);
+    }
+    budget
 }
