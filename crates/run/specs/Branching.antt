@@ -2,6 +2,8 @@
 use mathlib.Core.Bool.{Bool, true, false, cond}
 use mathlib.Core.List.{List}
 use Prim.Native.Nat.{ℕ, zero, suc, _+_}
+use Rattle.std.specs.declared.option.Option.{Option}
+use Rattle.std.specs.declared.option.Option.the-variants.{Some, None}
 use Rattle.sheet.specs.Code.{Code, stop, work, literal, choose, repeat, sizeOf}
 use Rattle.run.specs.Values.{Values, isTrue, worked, stated}
 
@@ -30,3 +32,8 @@ branching v (choose x p q r) l w =
     let z = e + 1 + sizeOf q in
     after (elim (isTrue v w x) [ true ↦ branching v p (l + 1) w | false ↦ branching v q (e + 1) w ]) (branching v r (z + 1))
 branching v (repeat x n p r) l w = after (passes v x l (branching v p (l + 1)) n w) (branching v r (l + 1 + sizeOf p + 1))
+
+-- the run that ended with these cells, at this line if it broke
+abbrev pub outOf : Option ℕ → List ℕ → Out
+outOf None w = went w
+outOf (Some l) w = broke l w

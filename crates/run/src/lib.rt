@@ -1,4 +1,5 @@
 // Running a sheet, in both its forms.
+mod branching;
 mod cells;
 mod levels;
 mod machine;
