@@ -1,3 +1,4 @@
 pub mod Meanings
 pub mod Taking
 pub mod Going
+pub mod Judged

@@ -3,3 +3,5 @@ pub mod Branching
 pub mod Machine
 pub mod Moves
 pub mod Laws
+pub mod Refusals
+pub mod Judging

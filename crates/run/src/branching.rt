@@ -29,7 +29,12 @@ fn end_of(line: Line) -> usize
 }
 
 // Runs the lines from `from` up to `to`; answers the line of the loop at which the run broke, if it did.
-fn run_block<V: Value>(lines: &[Line], from: usize, to: usize, cells: &mut [V]) -> Option<usize>
+pub(crate) fn run_block<V: Value>(
+    lines: &[Line],
+    from: usize,
+    to: usize,
+    cells: &mut [V],
+) -> Option<usize>
     requires reads { ⌜ ((c : Code) × Spans (now lines) from to c) ⌝ }
     requires ordered { ⌜ from ≤ to ⌝ }
     requires inside { ⌜ to ≤ length (now lines) ⌝ }

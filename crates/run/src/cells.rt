@@ -8,16 +8,16 @@ use crate::slots::put;
 use value::Value;
 
 // The value of a cell; past the last cell the literal 0.
-pub(crate) fn cell<V: Value>(cells: &[V], x: u8) -> V
+pub(crate) fn cell<V: Value>(cells: &[V], x: usize) -> V
     ensures { λ r. ⌜ V·Value .meaning r ≡ cellAt (kindOf V·Value) (map (V·Value .meaning) (now (cells .entry))) x ⌝ }
 {
-    get(cells, x as usize, V::literal(0))
+    get(cells, x, V::literal(0))
 }
 
 pub(crate) fn is_true<V: Value>(cells: &[V], x: u8) -> bool
     ensures { λ r. ⌜ r ≡ isTrue (kindOf V·Value) (map (V·Value .meaning) (now (cells .entry))) x ⌝ }
 {
-    cell(cells, x).truth()
+    cell(cells, x as usize).truth()
 }
 
 // Writes a cell; past the last cell nothing.
@@ -31,7 +31,7 @@ fn write<V: Value>(cells: &mut [V], x: u8, value: V)
 pub(crate) fn work<V: Value>(cells: &mut [V], target: u8, op: u8, a: u8, b: u8)
     ensures { λ _. ⌜ map (V·Value .meaning) (now (cells .exit)) ≡ worked (kindOf V·Value) target op a b (map (V·Value .meaning) (now (cells .entry))) ⌝ }
 {
-    let value = V::combine(op, cell(cells, a), cell(cells, b));
+    let value = V::combine(op, cell(cells, a as usize), cell(cells, b as usize));
     write(cells, target, value);
 }
 

@@ -26,6 +26,7 @@ pub enum Layer {
     Reading,
     Marking,
     Conversion,
+    Running,
 }
 
 impl ReadFault {

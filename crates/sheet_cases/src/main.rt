@@ -24,6 +24,7 @@ fn layer_name(fault: ConvertFault) -> &'static str {
         Layer::Reading => "reading",
         Layer::Marking => "marking",
         Layer::Conversion => "conversion",
+        Layer::Running => "running",
     }
 }
 
