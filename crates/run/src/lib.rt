@@ -1,6 +1,8 @@
 // Running a sheet, in both its forms.
+mod laws;
 mod registers;
 mod track;
 
+pub use laws::agreement_stands;
 pub use registers::Registers;
 pub use track::Track;
