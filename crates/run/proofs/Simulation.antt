@@ -20,7 +20,7 @@ use Rattle.onepath.specs.Holds.{stepAt, Holds, LoopEnd}
 use Rattle.onepath.specs.declared.steps.Step.{Step}
 use Rattle.onepath.specs.declared.steps.Step.the-variants.{Work, Literal, Ask, Turn, Setout, Narrow, Again, Close, Branch, Jump, Enter, Test}
 use Rattle.onepath.proofs.Front.{front-holds}
-use Rattle.onepath.proofs.Kept.{holds-le}
+use Rattle.onepath.proofs.Kept.{ends-le, holds-le}
 use Rattle.run.specs.Values.{Values, isTrue, worked, stated}
 use Rattle.run.specs.Branching.{Out, went, broke, branching}
 use Rattle.run.specs.Machine.{State, at, brokenAt, act, next, steps, fresh, cleared, flagAt, guardAt, counterAt, loopAt, flagged, guarded, counted, looped, oneMore}
@@ -52,7 +52,8 @@ kept-both a b = record {
   guard = λ i h. b .guard i h ∙ a .guard i h;
   counter = λ i h. b .counter i h ∙ a .counter i h;
   loop = λ i h. b .loop i h ∙ a .loop i h;
-  sized = λ z. b .sized (a .sized z) }
+  sized = λ z. b .sized (a .sized z);
+}
 
 kept-less : {k d m e : ℕ} {r s : Registers} → k ≤ m → d ≤ e → Kept m e r s → Kept k d r s
 kept-less p q a = record {
@@ -60,7 +61,8 @@ kept-less p q a = record {
   guard = λ i h. a .guard i (omega arith);
   counter = λ i h. a .counter i (omega arith);
   loop = λ i h. a .loop i (omega arith);
-  sized = a .sized }
+  sized = a .sized;
+}
 
 module _ {A : Type 0} (l : List A) (k : ℕ) (a d : A) where
   -- a write at k changes nothing below k
@@ -72,20 +74,40 @@ module _ {A : Type 0} (l : List A) (k : ℕ) (a d : A) where
 
 module _ {k d : ℕ} (r : Registers) where
   kept-flagged : (b : Bool) → Kept k d r (flagged r (k + 1) b)
-  kept-flagged b = record { flag = λ i h. set-above (r .flags) (k + 1) b false i (omega arith); guard = λ i h. refl; counter = λ i h. refl; loop = λ i h. refl;
-    sized = λ z. record { flags = set-long (r .flags) (k + 1) b false 7 (z .flags); guards = z .guards; counters = z .counters; loops = z .loops } }
+  kept-flagged b = record {
+    flag = λ i h. set-above (r .flags) (k + 1) b false i (omega arith);
+    guard = λ i h. refl;
+    counter = λ i h. refl;
+    loop = λ i h. refl;
+    sized = λ z. record { flags = set-long (r .flags) (k + 1) b false 7 (z .flags); guards = z .guards; counters = z .counters; loops = z .loops };
+  }
 
   kept-guarded : (b : Bool) → Kept k d r (guarded r (k + 1) b)
-  kept-guarded b = record { flag = λ i h. refl; guard = λ i h. ap (λ y. eqb i 0 || y) (set-above (r .guards) (k + 1) b false i (omega arith)); counter = λ i h. refl; loop = λ i h. refl;
-    sized = λ z. record { flags = z .flags; guards = set-long (r .guards) (k + 1) b false 7 (z .guards); counters = z .counters; loops = z .loops } }
+  kept-guarded b = record {
+    flag = λ i h. refl;
+    guard = λ i h. ap (λ y. eqb i 0 || y) (set-above (r .guards) (k + 1) b false i (omega arith));
+    counter = λ i h. refl;
+    loop = λ i h. refl;
+    sized = λ z. record { flags = z .flags; guards = set-long (r .guards) (k + 1) b false 7 (z .guards); counters = z .counters; loops = z .loops };
+  }
 
   kept-counted : (n : ℕ) → Kept k d r (counted r (k + 1) n)
-  kept-counted n = record { flag = λ i h. refl; guard = λ i h. refl; counter = λ i h. set-above (r .counters) (k + 1) n 0 i (omega arith); loop = λ i h. refl;
-    sized = λ z. record { flags = z .flags; guards = z .guards; counters = set-long (r .counters) (k + 1) n 0 7 (z .counters); loops = z .loops } }
+  kept-counted n = record {
+    flag = λ i h. refl;
+    guard = λ i h. refl;
+    counter = λ i h. set-above (r .counters) (k + 1) n 0 i (omega arith);
+    loop = λ i h. refl;
+    sized = λ z. record { flags = z .flags; guards = z .guards; counters = set-long (r .counters) (k + 1) n 0 7 (z .counters); loops = z .loops };
+  }
 
   kept-looped : (n : ℕ) → Kept k d r (looped r d n)
-  kept-looped n = record { flag = λ i h. refl; guard = λ i h. refl; counter = λ i h. refl; loop = λ i h. set-above (r .loops) d n 0 i h;
-    sized = λ z. record { flags = z .flags; guards = z .guards; counters = z .counters; loops = set-long (r .loops) d n 0 6 (z .loops) } }
+  kept-looped n = record {
+    flag = λ i h. refl;
+    guard = λ i h. refl;
+    counter = λ i h. refl;
+    loop = λ i h. set-above (r .loops) d n 0 i h;
+    sized = λ z. record { flags = z .flags; guards = z .guards; counters = z .counters; loops = set-long (r .loops) d n 0 6 (z .loops) };
+  }
 
 -- reading what was written
 module _ (k : ℕ) (r : Registers) (low : k ≤ 5) (z : Sized r) where
@@ -193,17 +215,17 @@ module _ (v : Values) (ts : List Step) where
         let k₀ : Kept k d r r₀ = kept-flagged r b in
         let k₁ : Kept k d r r₁ = kept-both k₀ (kept-guarded r₀ (g && b)) in
         step p hd
-          (rw (guard-around r k g o)
-            (chain (sx r₁ h w (g && b) (k₁ .sized z) (guard-same k r₀ low (k₀ .sized z) (g && b)))
-              (λ w₂ h₂ r₂ u.
-                let k₂ : Kept k d r r₂ = kept-both k₁ (kept-less (omega arith) (le-refl d) u) in
-                let f₂ : flagAt r₂ (k + 1) ≡ b = u .flag (k + 1) (le-refl (k + 1)) ∙ flag-same k r low z b in
-                let r₃ = guarded r₂ (k + 1) (g && not b) in
-                let k₃ : Kept k d r r₃ = kept-both k₂ (kept-guarded r₂ (g && not b)) in
-                step q md
-                  (rw (guard-around r₂ k g (k₂ .guard k (le-refl k) ∙ o), f₂)
-                    (rebase (omega arith) (le-refl d) k₃
-                      (sy r₃ h₂ w₂ (g && not b) (k₃ .sized z) (guard-same k r₂ low (k₂ .sized z) (g && not b))))))))
+        (rw (guard-around r k g o)
+        (chain (sx r₁ h w (g && b) (k₁ .sized z) (guard-same k r₀ low (k₀ .sized z) (g && b)))
+        (λ w₂ h₂ r₂ u.
+        let k₂ : Kept k d r r₂ = kept-both k₁ (kept-less (omega arith) (le-refl d) u) in
+        let f₂ : flagAt r₂ (k + 1) ≡ b = u .flag (k + 1) (le-refl (k + 1)) ∙ flag-same k r low z b in
+        let r₃ = guarded r₂ (k + 1) (g && not b) in
+        let k₃ : Kept k d r r₃ = kept-both k₂ (kept-guarded r₂ (g && not b)) in
+        step q md
+        (rw (guard-around r₂ k g (k₂ .guard k (le-refl k) ∙ o), f₂)
+        (rebase (omega arith) (le-refl d) k₃
+        (sy r₃ h₂ w₂ (g && not b) (k₃ .sized z) (guard-same k r₂ low (k₂ .sized z) (g && not b))))))))
     sim-choosing false hd md sx sy r h w g z o = step p hd (go (isTrue v w x))
       where
         go : (b : Bool) → Follows v ts k d r (at (cond b (i + 1) (m + 1)) r h w) e (cond b (X g w h) (Y g w h))
@@ -217,7 +239,7 @@ module _ (v : Values) (ts : List Step) where
     sim-pass : {F : List ℕ → Option ℕ → Walk} (n : ℕ) (r : Registers) (h : Option ℕ) (w : List ℕ) (g f : Bool) → n < bound → Sized r →
         guardAt r k ≡ g → flagAt r (k + 1) ≡ f → counterAt r (k + 1) ≡ n →
         ((w₁ : List ℕ) (h₁ : Option ℕ) (s : Registers) → Kept k d r s → guardAt s k ≡ g → flagAt s (k + 1) ≡ (f && isTrue v w x) → counterAt s (k + 1) ≡ n + 1 →
-          Follows v ts k d r (at (cond (ltb (n + 1) bound) i (m + 1)) s h₁ w₁) (m + 1 + 1) (F w₁ h₁)) →
+        Follows v ts k d r (at (cond (ltb (n + 1) bound) i (m + 1)) s h₁ w₁) (m + 1 + 1) (F w₁ h₁)) →
         Follows v ts k d r (at i r h w) (m + 1 + 1) (onward (X (g && (f && isTrue v w x)) w h) F)
     sim-pass n r h w g f below z eg ef en after-pass =
         let b = f && isTrue v w x in
@@ -226,30 +248,30 @@ module _ (v : Values) (ts : List Step) where
         let k₀ : Kept k d r r₀ = kept-flagged r b in
         let k₁ : Kept k d r r₁ = kept-both k₀ (kept-guarded r₀ (g && b)) in
         step p hn
-          (rw (guard-around r k g eg, ef)
-            (chain (sx r₁ h w (g && b) (k₁ .sized z) (guard-same k r₀ low (k₀ .sized z) (g && b)))
-              (λ w₂ h₂ r₂ u.
-                let k₂ : Kept k d r r₂ = kept-both k₁ (kept-less (omega arith) (le-refl d) u) in
-                let n₂ : oneMore (counterAt r₂ (k + 1)) ≡ n + 1 = one-more _ n (u .counter (k + 1) (le-refl (k + 1)) ∙ en) (omega arith) in
-                let r₃ = counted r₂ (k + 1) (n + 1) in
-                let k₃ : Kept k d r r₃ = kept-both k₂ (kept-counted r₂ (n + 1)) in
-                step (omega arith) ha
-                  (rw n₂
-                    (after-pass w₂ h₂ r₃ k₃ (k₃ .guard k (le-refl k) ∙ eg) (u .flag (k + 1) (le-refl (k + 1)) ∙ flag-same k r low z b)
-                      (counter-same k r₂ low (k₂ .sized z) (n + 1)))))))
+        (rw (guard-around r k g eg, ef)
+        (chain (sx r₁ h w (g && b) (k₁ .sized z) (guard-same k r₀ low (k₀ .sized z) (g && b)))
+        (λ w₂ h₂ r₂ u.
+        let k₂ : Kept k d r r₂ = kept-both k₁ (kept-less (omega arith) (le-refl d) u) in
+        let n₂ : oneMore (counterAt r₂ (k + 1)) ≡ n + 1 = one-more _ n (u .counter (k + 1) (le-refl (k + 1)) ∙ en) (omega arith) in
+        let r₃ = counted r₂ (k + 1) (n + 1) in
+        let k₃ : Kept k d r r₃ = kept-both k₂ (kept-counted r₂ (n + 1)) in
+        step (omega arith) ha
+        (rw n₂
+        (after-pass w₂ h₂ r₃ k₃ (k₃ .guard k (le-refl k) ∙ eg) (u .flag (k + 1) (le-refl (k + 1)) ∙ flag-same k r low z b)
+        (counter-same k r₂ low (k₂ .sized z) (n + 1)))))))
 
     sim-narrowing : (n c : ℕ) → c + suc n ≡ bound → (r : Registers) (h : Option ℕ) (w : List ℕ) (g f : Bool) → Sized r →
         guardAt r k ≡ g → flagAt r (k + 1) ≡ f → counterAt r (k + 1) ≡ c → Follows v ts k d r (at i r h w) (m + 1 + 1) (narrowing v x l X (suc n) f g w h)
     unfolding narrowing
     sim-narrowing zero c s r h w g f z eg ef en =
         sim-pass c r h w g f (omega arith) z eg ef en
-          (λ w₁ h₁ r₁ u g₁ f₁ n₁.
-            rw (le-ltb (c + 1) bound (omega arith)) (step q hc (rw (guard-around r₁ k g g₁, f₁) (arrives r₁ u here))))
+        (λ w₁ h₁ r₁ u g₁ f₁ n₁.
+        rw (le-ltb (c + 1) bound (omega arith)) (step q hc (rw (guard-around r₁ k g g₁, f₁) (arrives r₁ u here))))
     sim-narrowing (suc n) c s r h w g f z eg ef en =
         sim-pass c r h w g f (omega arith) z eg ef en
-          (λ w₁ h₁ r₁ u g₁ f₁ n₁.
-            rw (lt-ltb (c + 1) bound (omega arith))
-              (rebase (le-refl k) (le-refl d) u (sim-narrowing n (c + 1) (omega arith) r₁ h₁ w₁ g (f && isTrue v w x) (u .sized z) g₁ f₁ n₁)))
+        (λ w₁ h₁ r₁ u g₁ f₁ n₁.
+        rw (lt-ltb (c + 1) bound (omega arith))
+        (rebase (le-refl k) (le-refl d) u (sim-narrowing n (c + 1) (omega arith) r₁ h₁ w₁ g (f && isTrue v w x) (u .sized z) g₁ f₁ n₁)))
 
   -- an open loop: its test at i, its jump back at m
   module _ (k d i m x bound l : ℕ) (X : Form) (p : i < length ts) (q : m < length ts) (low : d ≤ 5) (most : bound ≤ 255)
@@ -263,15 +285,15 @@ module _ (v : Values) (ts : List Step) where
         let r₁ = looped r d (c + 1) in
         let k₁ : Kept k d r r₁ = kept-looped r (c + 1) in
         step p ht
-          (rw (ne-eqb (loopAt r d) bound (omega arith), one-more (loopAt r d) c en (omega arith))
-            (by-test (isTrue v w x)
-              (chain (sx r₁ h w g (k₁ .sized z) eg)
-                (λ w₂ h₂ r₂ u.
-                  let k₂ : Kept k d r r₂ = kept-both k₁ (kept-less (le-refl k) (omega arith) u) in
-                  step q hj
-                    (rebase (le-refl k) (le-refl d) k₂
-                      (sim-circling n (c + 1) (omega arith) r₂ h₂ w₂ g (k₂ .sized z) (k₂ .guard k (le-refl k) ∙ eg) (u .loop d (omega arith) ∙ loop-same d r low z (c + 1))))))
-              (arrives r kept-all here)))
+        (rw (ne-eqb (loopAt r d) bound (omega arith), one-more (loopAt r d) c en (omega arith))
+        (by-test (isTrue v w x)
+        (chain (sx r₁ h w g (k₁ .sized z) eg)
+        (λ w₂ h₂ r₂ u.
+        let k₂ : Kept k d r r₂ = kept-both k₁ (kept-less (le-refl k) (omega arith) u) in
+        step q hj
+        (rebase (le-refl k) (le-refl d) k₂
+        (sim-circling n (c + 1) (omega arith) r₂ h₂ w₂ g (k₂ .sized z) (k₂ .guard k (le-refl k) ∙ eg) (u .loop d (omega arith) ∙ loop-same d r low z (c + 1))))))
+        (arrives r kept-all here)))
 
   module _ (k d i m e x l : ℕ) (X : Form) (p : i + 2 ≤ m) (q : e ≤ length ts) (low : k + d ≤ 5) where
     sim-looping : (b : Bool) (n : ℕ) → 1 ≤ n → n ≤ 255 → stepAt ts i ≡ loopHead b (levelIn b k) d → stepAt ts (i + 1) ≡ loopTest b (levelIn b k) d x n (m + 1) l →
@@ -286,19 +308,19 @@ module _ (v : Values) (ts : List Step) where
         let k₀ : Kept k d r r₀ = kept-flagged r true in
         let k₁ : Kept k d r r₁ = kept-both k₀ (kept-counted r₀ 0) in
         step (omega arith) hd
-          (rebase (le-refl k) (le-refl d) k₁
-            (rw f
-              (sim-narrowing k d (i + 1) m x (suc n) l X (omega arith) (omega arith) (omega arith) most ht hb (he .0) (subst (λ a. Sim v ts (k + 1) d a m X) y sx)
-                n 0 (omega arith) r₁ h w g true (k₁ .sized z) o (flag-same k r (omega arith) z true) (counter-same k r₀ (omega arith) (k₀ .sized z) 0))))
+        (rebase (le-refl k) (le-refl d) k₁
+        (rw f
+        (sim-narrowing k d (i + 1) m x (suc n) l X (omega arith) (omega arith) (omega arith) most ht hb (he .0) (subst (λ a. Sim v ts (k + 1) d a m X) y sx)
+        n 0 (omega arith) r₁ h w g true (k₁ .sized z) o (flag-same k r (omega arith) z true) (counter-same k r₀ (omega arith) (k₀ .sized z) 0))))
     sim-looping false n least most hd ht hb he sx r h w g z o =
         let y : i + 2 ≡ i + 1 + 1 = omega arith in
         let r₁ = looped r d 0 in
         let k₁ : Kept k d r r₁ = kept-looped r 0 in
         step (omega (arith, he)) hd
-          (rebase (le-refl k) (le-refl d) k₁
-            (rw he
-              (sim-circling k d (i + 1) m x n l X (omega (arith, he)) (omega (arith, he)) (omega arith) most ht hb (subst (λ a. Sim v ts k (d + 1) a m X) y sx)
-                n 0 (omega arith) r₁ h w g (k₁ .sized z) o (loop-same d r (omega arith) z 0))))
+        (rebase (le-refl k) (le-refl d) k₁
+        (rw he
+        (sim-circling k d (i + 1) m x n l X (omega (arith, he)) (omega (arith, he)) (omega arith) most ht hb (subst (λ a. Sim v ts k (d + 1) a m X) y sx)
+        n 0 (omega arith) r₁ h w g (k₁ .sized z) o (loop-same d r (omega arith) z 0))))
 
 level-most : (b : Bool) (k : ℕ) → levelIn b k ≤ k + 1
 level-most true k = omega arith
@@ -308,10 +330,6 @@ level-most false k = omega arith
 loops-most : (b : Bool) (k d : ℕ) → levelIn b k + loopsIn b d ≤ k + d + 1
 loops-most true k d = omega arith
 loops-most false k d = omega arith
-
-ends-past : (b : Bool) (ts : List Step) (k x l m e : ℕ) → LoopEnd b ts k x l m e → m ≤ e
-ends-past true ts k x l m e h = omega (arith, h .1)
-ends-past false ts k x l m e h = omega (arith, h)
 
 module _ (v : Values) (covered : ℕ → Bool) (ts : List Step) (cells : ℕ) where
   sim : (deep k d l i j : ℕ) (c : Code) → Keeps cells deep c → k + d + deep ≤ 6 → Holds covered ts k d l i j c → j ≤ length ts → Sim v ts k d i j (walk v covered k l c)
@@ -335,10 +353,10 @@ module _ (v : Values) (covered : ℕ → Bool) (ts : List Step) (cells : ℕ) wh
       let q₃ = holds-le covered ts k d (end + 1) e j r (h .6) in
       let u : levelIn b k + d + (deep - 1) ≤ 6 = omega (arith, level-most b k, s .1) in
       sim-turn v ts k d i j e _ _
-        (sim-choosing v ts k d i m e x _ _ (omega arith) (omega arith) (omega (arith, s .1)) b (h .2) (h .4)
-          (sim (deep - 1) (levelIn (covered x) k) d (l + 1) (i + 1) m y (s .2) u (h .3) (omega arith))
-          (sim (deep - 1) (levelIn (covered x) k) d (else + 1) (m + 1) e z (s .3) u (h .5) (omega arith)))
-        (sim deep k d (end + 1) e j r (s .4) f (h .6) p)
+      (sim-choosing v ts k d i m e x _ _ (omega arith) (omega arith) (omega (arith, s .1)) b (h .2) (h .4)
+      (sim (deep - 1) (levelIn (covered x) k) d (l + 1) (i + 1) m y (s .2) u (h .3) (omega arith))
+      (sim (deep - 1) (levelIn (covered x) k) d (else + 1) (m + 1) e z (s .3) u (h .5) (omega arith)))
+      (sim deep k d (end + 1) e j r (s .4) f (h .6) p)
   sim deep k d l i j (repeat x n y r) s f h p =
       let b = loopCovered covered k x in
       let own = levelIn b k in
@@ -346,20 +364,19 @@ module _ (v : Values) (covered : ℕ → Bool) (ts : List Step) (cells : ℕ) wh
       let e = h .1 in
       let end = l + 1 + sizeOf y in
       let q₁ = holds-le covered ts own (loopsIn b d) (l + 1) (i + 2) m y (h .4) in
-      let q₂ = ends-past b ts own x l (m + 1) e (h .6) in
+      let q₂ = ends-le b ts own x l (m + 1) e (h .6) in
       let q₃ = holds-le covered ts k d (end + 1) e j r (h .7) in
       let u : levelIn b k + loopsIn b d + (deep - 1) ≤ 6 = omega (arith, loops-most b k d, s .3) in
       sim-turn v ts k d i j e _ _
-        (sim-looping v ts k d i m e x l _ q₁ (omega arith) (omega (arith, s .3)) b n (s .1) (s .2) (h .2) (h .3) (h .5) (h .6)
-          (sim (deep - 1) (levelIn (loopCovered covered k x) k) (loopsIn (loopCovered covered k x) d) (l + 1) (i + 2) m y (s .4) u (h .4) (omega arith)))
-        (sim deep k d (end + 1) e j r (s .5) f (h .7) p)
+      (sim-looping v ts k d i m e x l _ q₁ (omega arith) (omega (arith, s .3)) b n (s .1) (s .2) (h .2) (h .3) (h .5) (h .6)
+      (sim (deep - 1) (levelIn (loopCovered covered k x) k) (loopsIn (loopCovered covered k x) d) (l + 1) (i + 2) m y (s .4) u (h .4) (omega arith)))
+      (sim deep k d (end + 1) e j r (s .5) f (h .7) p)
 
 -- a machine that follows a walk comes to what the walk agrees with
 comes : {v : Values} {ts : List Step} {k d e : ℕ} {r : Registers} {s : State} (o : Out) (x : Walk) → Agree o x → Follows v ts k d r s e x → (n : ℕ) × ComesTo e o (steps v ts n s)
 comes (went w) (on u h) a (arrives t y b) =
     let c = reach-steps b in
-    let f : _ = c .1 in
-    (c .0, rw f (refl, cc, cc, refl))
+    (c .0, rw (c .1) (refl, cc, cc, refl))
 comes (went w) (off l h) a (breaks i t u b) = absurd (let z : _≡_ {A = ℕ} 0 1 = cc in omega arith)
 comes (broke l w) (on u h) a (arrives t y b) = let c = reach-steps b in (c .0, rw (c .1) (inl (a, inl refl)))
 comes (broke l w) (off m h) (inl a) (breaks i t u b) = let c = reach-steps b in (c .0, rw (c .1) (inl (a, inr (m, refl))))
@@ -370,4 +387,4 @@ agreement v covered cells c w s =
     let ts = stepsOf covered 0 0 0 0 c in
     let z : Sized cleared = record { flags = refl; guards = refl; counters = refl; loops = refl } in
     comes (branching v c 0 w) (walk v covered 0 0 c true w None) (agrees v covered 0 0 c w)
-      (sim v covered ts cells 6 0 0 0 0 (length ts) c s (omega arith) (front-holds covered ts [] 0 0 0 c (sym (append-nil ts))) (le-refl (length ts)) cleared None w true z refl)
+    (sim v covered ts cells 6 0 0 0 0 (length ts) c s (omega arith) (front-holds covered ts [] 0 0 0 c (sym (append-nil ts))) (le-refl (length ts)) cleared None w true z refl)

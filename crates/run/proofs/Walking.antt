@@ -290,16 +290,16 @@ module _ (v : Values) (covered : ℕ → Bool) where
       let else = l + 1 + sizeOf p in
       let end = else + 1 + sizeOf q in
       agree-turn _ (branching v r (end + 1)) _ (walk v covered k (end + 1) r)
-        (agree-choosing v x (branching v p (l + 1)) (branching v q (else + 1)) (walk v covered own (l + 1) p) (walk v covered own (else + 1) q)
-          (agrees (levelIn (covered x) k) (l + 1) p) (agrees (levelIn (covered x) k) (else + 1) q) (covered x)
-          (λ e. idle v covered own (l + 1) p (f e)) (λ e. idle v covered own (else + 1) q (f e)))
-        (agrees k (end + 1) r) (stays v covered k (end + 1) r)
+      (agree-choosing v x (branching v p (l + 1)) (branching v q (else + 1)) (walk v covered own (l + 1) p) (walk v covered own (else + 1) q)
+      (agrees (levelIn (covered x) k) (l + 1) p) (agrees (levelIn (covered x) k) (else + 1) q) (covered x)
+      (λ e. idle v covered own (l + 1) p (f e)) (λ e. idle v covered own (else + 1) q (f e)))
+      (agrees k (end + 1) r) (stays v covered k (end + 1) r)
   agrees k l (repeat x n p r) =
       let b = loopCovered covered k x in
       let f = level-inside b k in
       let own = levelIn b k in
       let end = l + 1 + sizeOf p in
       agree-turn _ (branching v r (end + 1)) _ (walk v covered k (end + 1) r)
-        (agree-looping v x l (branching v p (l + 1)) (walk v covered own (l + 1) p)
-          (agrees (levelIn (loopCovered covered k x) k) (l + 1) p) (stays v covered own (l + 1) p) b (λ e. idle v covered own (l + 1) p (f e)) n)
-        (agrees k (end + 1) r) (stays v covered k (end + 1) r)
+      (agree-looping v x l (branching v p (l + 1)) (walk v covered own (l + 1) p)
+      (agrees (levelIn (loopCovered covered k x) k) (l + 1) p) (stays v covered own (l + 1) p) b (λ e. idle v covered own (l + 1) p (f e)) n)
+      (agrees k (end + 1) r) (stays v covered k (end + 1) r)
