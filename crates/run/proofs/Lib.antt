@@ -1,2 +1,4 @@
 pub mod Walking
+pub mod Kept
+pub mod Following
 pub mod Simulation

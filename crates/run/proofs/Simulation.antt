@@ -1,15 +1,15 @@
--- The step machine on the table of a code's steps follows the code's walk.
+-- On the table of a code's steps the machine follows the code's walk, and so comes to what the branching run comes to.
 use mathlib.Core.Path.{_≡_, refl, sym, _∙_, ap, subst}
-use mathlib.Core.List.{List, [], _++_}
-use mathlib.Core.Bool.{Bool, true, false, cond, not, _&&_, _||_}
-use mathlib.Core.Logic.{_⊎_, inl, inr}
+use mathlib.Core.List.{List, []}
+use mathlib.Core.Bool.{Bool, true, false, cond, not, _&&_}
+use mathlib.Core.Logic.{inl, inr}
 use Prim.Native.Nat.{ℕ, zero, suc, _+_, _-_, _<_, _≤_}
 use native.Mathlib.Nat.{le-refl}
 use native.Mathlib.Omega.{arith}
-use lib.Dec.{eqb, ltb, leb}
-use lib.ListN.{length, getD, set}
-use Rattle.std.proofs.shelf.Lists.{append-nil, length-set, getD-set-same, getD-set-other}
-use Rattle.std.proofs.shelf.Tests.{lt-ltb, le-ltb, lt-leb, eq-eqb, ne-eqb, cond-false}
+use lib.Dec.{ltb}
+use lib.ListN.{length}
+use Rattle.std.proofs.shelf.Lists.{append-nil}
+use Rattle.std.proofs.shelf.Tests.{lt-ltb, le-ltb, eq-eqb, ne-eqb}
 use Rattle.std.specs.declared.option.Option.{Option}
 use Rattle.std.specs.declared.option.Option.the-variants.{Some, None}
 use Rattle.sheet.specs.Code.{Code, stop, work, literal, choose, repeat, sizeOf, Keeps}
@@ -18,170 +18,20 @@ use Rattle.onepath.specs.Own.{ifHead, ifMiddle, loopHead, loopTest, loopBack}
 use Rattle.onepath.specs.Listed.{stepsOf}
 use Rattle.onepath.specs.Holds.{stepAt, Holds, LoopEnd}
 use Rattle.onepath.specs.declared.steps.Step.{Step}
-use Rattle.onepath.specs.declared.steps.Step.the-variants.{Work, Literal, Ask, Turn, Setout, Narrow, Again, Close, Branch, Jump, Enter, Test}
+use Rattle.onepath.specs.declared.steps.Step.the-variants.{Work, Literal, Narrow, Again, Close, Jump, Test}
 use Rattle.onepath.proofs.Front.{front-holds}
 use Rattle.onepath.proofs.Kept.{ends-le, holds-le}
 use Rattle.run.specs.Values.{Values, isTrue, worked, stated}
 use Rattle.run.specs.Branching.{Out, went, broke, branching}
-use Rattle.run.specs.Machine.{State, at, brokenAt, act, next, steps, fresh, cleared, flagAt, guardAt, counterAt, loopAt, flagged, guarded, counted, looped, oneMore}
+use Rattle.run.specs.Machine.{State, at, steps, cleared, flagAt, guardAt, counterAt, loopAt, flagged, guarded, counted, looped}
 use Rattle.run.specs.Laws.{ComesTo, Agreement}
 use Rattle.run.specs.declared.registers.Registers.{Registers}
+use Rattle.run.proofs.Kept.{Sized, Kept, kept-all, kept-both, kept-less, kept-flagged, kept-guarded, kept-counted, kept-looped, flag-same, guard-same, counter-same, loop-same, guard-around, one-more}
 use Rattle.run.proofs.Walking.{Walk, on, off, onward, Form, inTurn, resting, doing, choosing, narrowing, circling, looping, walk, Agree, agrees}
-
--- the registers have a place for each level and each open loop
-pub record Sized (r : Registers) : Type 0 where
-  pub flags : length (r .flags) ≡ 7
-  pub guards : length (r .guards) ≡ 7
-  pub counters : length (r .counters) ≡ 7
-  pub loops : length (r .loops) ≡ 6
-
--- what a block at level k, with d open loops around it, leaves alone
-pub record Kept (k d : ℕ) (r s : Registers) : Type 0 where
-  pub flag : (i : ℕ) → i ≤ k → flagAt s i ≡ flagAt r i
-  pub guard : (i : ℕ) → i ≤ k → guardAt s i ≡ guardAt r i
-  pub counter : (i : ℕ) → i ≤ k → counterAt s i ≡ counterAt r i
-  pub loop : (i : ℕ) → i < d → loopAt s i ≡ loopAt r i
-  pub sized : Sized r → Sized s
-
-kept-all : {k d : ℕ} {r : Registers} → Kept k d r r
-kept-all = record { flag = λ i h. refl; guard = λ i h. refl; counter = λ i h. refl; loop = λ i h. refl; sized = λ z. z }
-
-kept-both : {k d : ℕ} {r s t : Registers} → Kept k d r s → Kept k d s t → Kept k d r t
-kept-both a b = record {
-  flag = λ i h. b .flag i h ∙ a .flag i h;
-  guard = λ i h. b .guard i h ∙ a .guard i h;
-  counter = λ i h. b .counter i h ∙ a .counter i h;
-  loop = λ i h. b .loop i h ∙ a .loop i h;
-  sized = λ z. b .sized (a .sized z);
-}
-
-kept-less : {k d m e : ℕ} {r s : Registers} → k ≤ m → d ≤ e → Kept m e r s → Kept k d r s
-kept-less p q a = record {
-  flag = λ i h. a .flag i (omega arith);
-  guard = λ i h. a .guard i (omega arith);
-  counter = λ i h. a .counter i (omega arith);
-  loop = λ i h. a .loop i (omega arith);
-  sized = a .sized;
-}
-
-module _ {A : Type 0} (l : List A) (k : ℕ) (a d : A) where
-  -- a write at k changes nothing below k
-  set-above : (i : ℕ) → i < k → getD (set l k a) i d ≡ getD l i d
-  set-above i h = getD-set-other l k i a d (omega arith)
-
-  set-long : (n : ℕ) → length l ≡ n → length (set l k a) ≡ n
-  set-long n h = length-set l k a ∙ h
-
-module _ {k d : ℕ} (r : Registers) where
-  kept-flagged : (b : Bool) → Kept k d r (flagged r (k + 1) b)
-  kept-flagged b = record {
-    flag = λ i h. set-above (r .flags) (k + 1) b false i (omega arith);
-    guard = λ i h. refl;
-    counter = λ i h. refl;
-    loop = λ i h. refl;
-    sized = λ z. record { flags = set-long (r .flags) (k + 1) b false 7 (z .flags); guards = z .guards; counters = z .counters; loops = z .loops };
-  }
-
-  kept-guarded : (b : Bool) → Kept k d r (guarded r (k + 1) b)
-  kept-guarded b = record {
-    flag = λ i h. refl;
-    guard = λ i h. ap (λ y. eqb i 0 || y) (set-above (r .guards) (k + 1) b false i (omega arith));
-    counter = λ i h. refl;
-    loop = λ i h. refl;
-    sized = λ z. record { flags = z .flags; guards = set-long (r .guards) (k + 1) b false 7 (z .guards); counters = z .counters; loops = z .loops };
-  }
-
-  kept-counted : (n : ℕ) → Kept k d r (counted r (k + 1) n)
-  kept-counted n = record {
-    flag = λ i h. refl;
-    guard = λ i h. refl;
-    counter = λ i h. set-above (r .counters) (k + 1) n 0 i (omega arith);
-    loop = λ i h. refl;
-    sized = λ z. record { flags = z .flags; guards = z .guards; counters = set-long (r .counters) (k + 1) n 0 7 (z .counters); loops = z .loops };
-  }
-
-  kept-looped : (n : ℕ) → Kept k d r (looped r d n)
-  kept-looped n = record {
-    flag = λ i h. refl;
-    guard = λ i h. refl;
-    counter = λ i h. refl;
-    loop = λ i h. set-above (r .loops) d n 0 i h;
-    sized = λ z. record { flags = z .flags; guards = z .guards; counters = z .counters; loops = set-long (r .loops) d n 0 6 (z .loops) };
-  }
-
--- reading what was written
-module _ (k : ℕ) (r : Registers) (low : k ≤ 5) (z : Sized r) where
-  flag-same : (b : Bool) → flagAt (flagged r (k + 1) b) (k + 1) ≡ b
-  flag-same b = getD-set-same (r .flags) (k + 1) b false (omega arith)
-
-  guard-same : (b : Bool) → guardAt (guarded r (k + 1) b) (k + 1) ≡ b
-  guard-same b = rw (ne-eqb (k + 1) 0 (omega arith)) (getD-set-same (r .guards) (k + 1) b false (omega arith))
-
-  counter-same : (n : ℕ) → counterAt (counted r (k + 1) n) (k + 1) ≡ n
-  counter-same n = getD-set-same (r .counters) (k + 1) n 0 (omega arith)
-
-  loop-same : (n : ℕ) → loopAt (looped r k n) k ≡ n
-  loop-same n = getD-set-same (r .loops) k n 0 (omega arith)
-
--- the guard of the level around
-guard-around : (r : Registers) (k : ℕ) (g : Bool) → guardAt r k ≡ g → guardAt r (k + 1 - 1) ≡ g
-guard-around r k g e = let q : k + 1 - 1 ≡ k = omega arith in rw q e
-
--- a counter below its bound
-one-more : (n m : ℕ) → n ≡ m → m < 255 → oneMore n ≡ m + 1
-one-more n m e h = omega arith
-
--- from one state the machine comes to another
-pub data Reach (v : Values) (ts : List Step) : State → State → Type 0 where
-  here : {s : State} → Reach v ts s s
-  more : {s t : State} → Reach v ts (next v ts s) t → Reach v ts s t
-
-module _ {v : Values} {ts : List Step} where
-  reach-both : {s t u : State} → Reach v ts s t → Reach v ts t u → Reach v ts s u
-  reach-both here r = r
-  reach-both (more a) r = more (reach-both a r)
-
-  reach-steps : {s t : State} → Reach v ts s t → (n : ℕ) × (steps v ts n s ≡ t)
-  reach-steps here = (0, refl)
-  reach-steps (more a) = let r = reach-steps a in (suc (r .0), r .1)
-
-  -- by the step at a place
-  reach-by : {o : Step} {i : ℕ} {r : Registers} {h : Option ℕ} {w : List ℕ} {t : State} → i < length ts → stepAt ts i ≡ o → Reach v ts (act v o i r h w) t → Reach v ts (at i r h w) t
-  reach-by {i = i} p q a = more (rw (lt-leb (length ts) i p, q) a)
-
--- The machine goes from a state, as the walk says, to the place e, or breaks, and leaves alone what r has at level k.
-pub data Follows (v : Values) (ts : List Step) (k d : ℕ) (r : Registers) (s : State) (e : ℕ) : Walk → Type 0 where
-  arrives : {w : List ℕ} {h : Option ℕ} (t : Registers) → Kept k d r t → Reach v ts s (at e t h w) → Follows v ts k d r s e (on w h)
-  breaks : {l : ℕ} {h : Option ℕ} (i : ℕ) (t : Registers) (w : List ℕ) → Reach v ts s (brokenAt l i t h w) → Follows v ts k d r s e (off l h)
-
-module _ {v : Values} {ts : List Step} {k d : ℕ} {r : Registers} {e : ℕ} where
-  ahead : {s t : State} {x : Walk} → Reach v ts s t → Follows v ts k d r t e x → Follows v ts k d r s e x
-  ahead a (arrives t u b) = arrives t u (reach-both a b)
-  ahead a (breaks i t w b) = breaks i t w (reach-both a b)
-
-  step : {o : Step} {i : ℕ} {t : Registers} {h : Option ℕ} {w : List ℕ} {x : Walk} → i < length ts → stepAt ts i ≡ o → Follows v ts k d r (act v o i t h w) e x → Follows v ts k d r (at i t h w) e x
-  step p q b = ahead (reach-by p q here) b
-
-  rebase : {m f : ℕ} {t : Registers} {s : State} {x : Walk} → k ≤ m → d ≤ f → Kept k d r t → Follows v ts m f t s e x → Follows v ts k d r s e x
-  rebase p q a (arrives t u b) = arrives t (kept-both a (kept-less p q u)) b
-  rebase p q a (breaks i t w b) = breaks i t w b
-
-  chain : {m f i : ℕ} {t : Registers} {s : State} {x : Walk} {F : List ℕ → Option ℕ → Walk} → Follows v ts m f t s i x →
-      ((w : List ℕ) (h : Option ℕ) (u : Registers) → Kept m f t u → Follows v ts k d r (at i u h w) e (F w h)) → Follows v ts k d r s e (onward x F)
-  chain (arrives {w} {h} t u b) c = ahead b (c w h t u)
-  chain (breaks i t w b) c = breaks i t w b
-
-  -- one jump more at the end
-  jumping : {i : ℕ} {s : State} {x : Walk} → i < length ts → stepAt ts i ≡ Jump e → Follows v ts k d r s i x → Follows v ts k d r s e x
-  jumping p q (arrives t u b) = arrives t u (reach-both b (reach-by p q here))
-  jumping p q (breaks i t w b) = breaks i t w b
-
-  by-test : (b : Bool) {s t : State} {x y : Walk} → Follows v ts k d r s e x → Follows v ts k d r t e y → Follows v ts k d r (cond b s t) e (cond b x y)
-  by-test true f g = f
-  by-test false f g = g
+use Rattle.run.proofs.Following.{Follows, arrives, breaks, here, reach-steps, step, rebase, chain, jumping, by-test}
 
 -- from i to j the machine follows the walk, at level k with d open loops around
-abbrev pub Sim : Values → List Step → ℕ → ℕ → ℕ → ℕ → Form → Type 0
+abbrev Sim : Values → List Step → ℕ → ℕ → ℕ → ℕ → Form → Type 0
 Sim v ts k d i j X = (r : Registers) (h : Option ℕ) (w : List ℕ) (g : Bool) → Sized r → guardAt r k ≡ g → Follows v ts k d r (at i r h w) j (X g w h)
 
 module _ (v : Values) (ts : List Step) where
@@ -204,22 +54,30 @@ module _ (v : Values) (ts : List Step) where
     unfolding doing
     sim-literal t n q r h w g z e = step p q (rw e (arrives r kept-all here))
 
+  -- a block one level deeper, where its flag and its guard have been set, and then what follows it
+  module _ (k d i m : ℕ) (X : Form) (low : k ≤ 5) (sx : Sim v ts (k + 1) d i m X) where
+    sim-inside : {e : ℕ} {F : List ℕ → Option ℕ → Walk} (r : Registers) (h : Option ℕ) (w : List ℕ) (g b : Bool) → Sized r →
+        ((w₁ : List ℕ) (h₁ : Option ℕ) (s : Registers) → Kept k d r s → flagAt s (k + 1) ≡ b → counterAt s (k + 1) ≡ counterAt r (k + 1) → Follows v ts k d r (at m s h₁ w₁) e (F w₁ h₁)) →
+        Follows v ts k d r (at i (guarded (flagged r (k + 1) b) (k + 1) (g && b)) h w) e (onward (X (g && b) w h) F)
+    sim-inside r h w g b z then =
+        let r₀ = flagged r (k + 1) b in
+        let r₁ = guarded r₀ (k + 1) (g && b) in
+        let k₀ : Kept k d r r₀ = kept-flagged r b in
+        let k₁ : Kept k d r r₁ = kept-both k₀ (kept-guarded r₀ (g && b)) in
+        chain (sx r₁ h w (g && b) (k₁ .sized z) (guard-same k r₀ low (k₀ .sized z) (g && b)))
+        (λ w₂ h₂ r₂ u.
+        then w₂ h₂ r₂ (kept-both k₁ (kept-less (omega arith) (le-refl d) u)) (u .flag (k + 1) (le-refl (k + 1)) ∙ flag-same k r low z b) (u .counter (k + 1) (le-refl (k + 1))))
+
   module _ (k d i m e x : ℕ) (X Y : Form) (p : i < length ts) (q : m < length ts) (low : k ≤ 5) where
     sim-choosing : (b : Bool) → stepAt ts i ≡ ifHead b (levelIn b k) x (m + 1) → stepAt ts m ≡ ifMiddle b (levelIn b k) e →
         Sim v ts (levelIn b k) d (i + 1) m X → Sim v ts (levelIn b k) d (m + 1) e Y → Sim v ts k d i e (choosing b v x X Y)
     unfolding choosing
     sim-choosing true hd md sx sy r h w g z o =
         let b = isTrue v w x in
-        let r₀ = flagged r (k + 1) b in
-        let r₁ = guarded r₀ (k + 1) (g && b) in
-        let k₀ : Kept k d r r₀ = kept-flagged r b in
-        let k₁ : Kept k d r r₁ = kept-both k₀ (kept-guarded r₀ (g && b)) in
         step p hd
         (rw (guard-around r k g o)
-        (chain (sx r₁ h w (g && b) (k₁ .sized z) (guard-same k r₀ low (k₀ .sized z) (g && b)))
-        (λ w₂ h₂ r₂ u.
-        let k₂ : Kept k d r r₂ = kept-both k₁ (kept-less (omega arith) (le-refl d) u) in
-        let f₂ : flagAt r₂ (k + 1) ≡ b = u .flag (k + 1) (le-refl (k + 1)) ∙ flag-same k r low z b in
+        (sim-inside k d (i + 1) m X low sx r h w g b z
+        (λ w₂ h₂ r₂ k₂ f₂ n₂.
         let r₃ = guarded r₂ (k + 1) (g && not b) in
         let k₃ : Kept k d r r₃ = kept-both k₂ (kept-guarded r₂ (g && not b)) in
         step q md
@@ -241,24 +99,16 @@ module _ (v : Values) (ts : List Step) where
         ((w₁ : List ℕ) (h₁ : Option ℕ) (s : Registers) → Kept k d r s → guardAt s k ≡ g → flagAt s (k + 1) ≡ (f && isTrue v w x) → counterAt s (k + 1) ≡ n + 1 →
         Follows v ts k d r (at (cond (ltb (n + 1) bound) i (m + 1)) s h₁ w₁) (m + 1 + 1) (F w₁ h₁)) →
         Follows v ts k d r (at i r h w) (m + 1 + 1) (onward (X (g && (f && isTrue v w x)) w h) F)
-    sim-pass n r h w g f below z eg ef en after-pass =
-        let b = f && isTrue v w x in
-        let r₀ = flagged r (k + 1) b in
-        let r₁ = guarded r₀ (k + 1) (g && b) in
-        let k₀ : Kept k d r r₀ = kept-flagged r b in
-        let k₁ : Kept k d r r₁ = kept-both k₀ (kept-guarded r₀ (g && b)) in
+    sim-pass n r h w g f below z eg ef en then =
         step p hn
         (rw (guard-around r k g eg, ef)
-        (chain (sx r₁ h w (g && b) (k₁ .sized z) (guard-same k r₀ low (k₀ .sized z) (g && b)))
-        (λ w₂ h₂ r₂ u.
-        let k₂ : Kept k d r r₂ = kept-both k₁ (kept-less (omega arith) (le-refl d) u) in
-        let n₂ : oneMore (counterAt r₂ (k + 1)) ≡ n + 1 = one-more _ n (u .counter (k + 1) (le-refl (k + 1)) ∙ en) (omega arith) in
+        (sim-inside k d (i + 1) m X low sx r h w g (f && isTrue v w x) z
+        (λ w₂ h₂ r₂ k₂ f₂ n₂.
         let r₃ = counted r₂ (k + 1) (n + 1) in
         let k₃ : Kept k d r r₃ = kept-both k₂ (kept-counted r₂ (n + 1)) in
         step (omega arith) ha
-        (rw n₂
-        (after-pass w₂ h₂ r₃ k₃ (k₃ .guard k (le-refl k) ∙ eg) (u .flag (k + 1) (le-refl (k + 1)) ∙ flag-same k r low z b)
-        (counter-same k r₂ low (k₂ .sized z) (n + 1)))))))
+        (rw (one-more (counterAt r₂ (k + 1)) n (n₂ ∙ en) (omega arith))
+        (then w₂ h₂ r₃ k₃ (k₃ .guard k (le-refl k) ∙ eg) f₂ (counter-same k r₂ low (k₂ .sized z) (n + 1)))))))
 
     sim-narrowing : (n c : ℕ) → c + suc n ≡ bound → (r : Registers) (h : Option ℕ) (w : List ℕ) (g f : Bool) → Sized r →
         guardAt r k ≡ g → flagAt r (k + 1) ≡ f → counterAt r (k + 1) ≡ c → Follows v ts k d r (at i r h w) (m + 1 + 1) (narrowing v x l X (suc n) f g w h)

@@ -1,5 +1,5 @@
 -- The one path walked by the structure of the code, with no places and no registers, and what it comes to.
-use mathlib.Core.Path.{_≡_, refl, sym, _∙_, ap}
+use mathlib.Core.Path.{_≡_, refl}
 use mathlib.Core.List.{List}
 use mathlib.Core.Bool.{Bool, true, false, cond, not, _&&_}
 use mathlib.Core.Logic.{_⊎_, inl, inr}
@@ -72,7 +72,7 @@ walk v covered k l (repeat x n p r) =
     inTurn (looping b v x l (walk v covered own (l + 1) p) n) (walk v covered k (l + 1 + sizeOf p + 1) r)
 
 -- Under a guard that is no, inside a covered construct, a walk changes nothing.
-abbrev pub Idle : Form → Type 0
+abbrev Idle : Form → Type 0
 Idle X = (w : List ℕ) (h : Option ℕ) → X false w h ≡ on w h
 
 idle-turn : (X Y : Form) → Idle X → Idle Y → Idle (inTurn X Y)
@@ -129,11 +129,11 @@ module _ (v : Values) (covered : ℕ → Bool) where
       rw (loop-inside covered k x p) (idle-turn _ _ (idle-narrowing v x l _ (idle (k + 1) (l + 1) y (omega arith)) n true) (idle k _ r p))
 
 -- A latch stays.
-abbrev pub Latched : ℕ → Walk → Type 0
+abbrev Latched : ℕ → Walk → Type 0
 Latched l (on w h) = h ≡ Some l
 Latched l (off m h) = h ≡ Some l
 
-abbrev pub Stays : Form → Type 0
+abbrev Stays : Form → Type 0
 Stays X = (g : Bool) (w : List ℕ) (l : ℕ) → Latched l (X g w (Some l))
 
 latched-onward : (l : ℕ) (s : Walk) (f : List ℕ → Option ℕ → Walk) → Latched l s → ((w : List ℕ) → Latched l (f w (Some l))) → Latched l (onward s f)
@@ -191,7 +191,7 @@ module _ (v : Values) (covered : ℕ → Bool) where
 
 -- Under a guard that is yes, and with nothing latched, a walk comes to what the branching run comes to: a latch, or
 -- without one a break, blames the line at which that breaks.
-abbrev pub Blames : ℕ → Walk → Type 0
+abbrev Blames : ℕ → Walk → Type 0
 Blames l (on w h) = h ≡ Some l
 Blames l (off m h) = (h ≡ Some l) ⊎ ((h ≡ None) × (m ≡ l))
 
@@ -199,7 +199,7 @@ abbrev pub Agree : Out → Walk → Type 0
 Agree (went w) s = s ≡ on w None
 Agree (broke l w) s = Blames l s
 
-abbrev pub Agrees : (List ℕ → Out) → Form → Type 0
+abbrev Agrees : (List ℕ → Out) → Form → Type 0
 Agrees B X = (w : List ℕ) → Agree (B w) (X true w None)
 
 blames : (l : ℕ) (s : Walk) → Latched l s → Blames l s
