@@ -13,7 +13,7 @@ use Rattle.onepath.specs.declared.steps.Step.{Step}
 abbrev pub Kept : List Step → List Step → ℕ → ℕ → Type 0
 Kept ts us i j = (x : ℕ) → i ≤ x → x < j → stepAt us x ≡ stepAt ts x
 
-ends-le : (b : Bool) (ts : List Step) (k x l m e : ℕ) → LoopEnd b ts k x l m e → m ≤ e
+pub ends-le : (b : Bool) (ts : List Step) (k x l m e : ℕ) → LoopEnd b ts k x l m e → m ≤ e
 ends-le true ts k x l m e h = omega (arith, h .1)
 ends-le false ts k x l m e h = omega (arith, h)
 

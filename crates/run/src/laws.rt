@@ -1,0 +1,8 @@
+ghost use Rattle.run.specs.Laws.{Agreement};
+
+// From any cells the one path comes to an end, and to what the branching run comes to.
+pub fn agreement_stands() -> u8
+    ensures { λ _. ⌜ Agreement ⌝ }
+{
+    0
+}
