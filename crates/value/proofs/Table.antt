@@ -1,22 +1,18 @@
--- The table of the smallest digits, made from its rule.
+-- The table of the smallest digits follows its rule at each set.
 use mathlib.Core.Path.{_≡_}
 use mathlib.Core.Bool.{cond}
-use mathlib.Core.List.{List, map}
 use Prim.Native.Nat.{ℕ, _<_}
 use native.Mathlib.Omega.{arith}
 use lib.Dec.{lit<}
 use lib.ListN.{getD}
-use Rattle.std.specs.Iters.{counting}
 use Rattle.std.proofs.shelf.Counted.{getD-map-counting}
 use Rattle.std.proofs.shelf.Tests.{cond-both}
 use Rattle.value.specs.Sets.{has, only}
-use Rattle.value.specs.Smallest.{smallestOf}
+use Rattle.value.specs.Smallest.{firstIn, nineDigits, smallestOf, everySmallest}
 
-abbrev pub table : List ℕ
-table = map smallestOf (counting 0 512)
-
-pub at-table : (s : ℕ) → s < 512 → getD table s 0 ≡ smallestOf s
-at-table s h = getD-map-counting smallestOf 0 512 s s 0 h (omega arith)
+pub at-table : (s : ℕ) → s < 512 → getD everySmallest s 0 ≡ smallestOf s
+unfolding smallestOf
+at-table s h = getD-map-counting (λ x. firstIn x nineDigits) 0 512 s s 0 h (omega arith)
 
 either : (s d rest : ℕ) → only d < 512 → rest < 512 → cond (has s d) (only d) rest < 512
 either s d rest h k = cond-both (has s d) (only d) rest (λ x. x < 512) (λ _. h) (λ _. k)
