@@ -7,9 +7,10 @@ use native.Mathlib.Omega.{arith}
 use lib.Bits.{bitAnd, bitOr, bitXor, and-shr, and-mod, or-shr, or-mod, xor-shr, xor-mod, and-mask, xor-add-and, or-lt}
 use lib.Dec.{eqb, lit<}
 use Rattle.value.specs.Sets.{has, unionOf, common, inJustOne, outside, without, inNeither}
+use Rattle.value.proofs.Table.{smallest-has}
 use Rattle.value.specs.Membership.{oneOf, Sets-stand}
 
-not-bit : {A : Type 0} {x : ℕ} → suc (suc x) < 2 → A
+pub not-bit : {A : Type 0} {x : ℕ} → suc (suc x) < 2 → A
 not-bit h = absurd (omega arith)
 
 or-bit : (x y : ℕ) → x < 2 → y < 2 → eqb (bitOr x y) 1 ≡ (eqb x 1 || eqb y 1)
@@ -53,7 +54,7 @@ module _ (f : ℕ → ℕ → ℕ) (g : Bool → Bool → Bool)
 union-has : (a b d : ℕ) → has (unionOf a b) d ≡ (has a d || has b d)
 union-has = by-bit bitOr _||_ or-shr or-mod or-bit
 
-common-has : (a b d : ℕ) → has (common a b) d ≡ (has a d && has b d)
+pub common-has : (a b d : ℕ) → has (common a b) d ≡ (has a d && has b d)
 common-has = by-bit bitAnd _&&_ and-shr and-mod and-bit
 
 one-has : (a b d : ℕ) → has (inJustOne a b) d ≡ oneOf (has a d) (has b d)
@@ -100,4 +101,5 @@ stands a b d ha hb lo hi = (
   one-has a b d,
   outside-has a d ha lo hi,
   outside-has (unionOf a b) d (or-lt 9 a b ha hb) lo hi ∙ ap not (union-has a b d) ∙ not-or (has a d) (has b d),
+  smallest-has a d ha lo hi,
 )
