@@ -11,17 +11,14 @@ use lib.Pow.{shr-lt, shr-shr}
 use Rattle.std.proofs.shelf.Tests.{false≢true, eqb-true, eq-eqb}
 use Rattle.value.specs.Sets.{has, common}
 use Rattle.value.specs.Membership.{Part, Comparisons-stand}
-use Rattle.value.proofs.Bitwise.{not-bit, common-has}
+use Rattle.value.proofs.Bitwise.{common-has}
+use Rattle.value.proofs.Cases.{each-bits}
 
 -- bits that are 1 together are the same
 same-bit : (x y : ℕ) → x < 2 → y < 2 → (eqb x 1 ≡ true → eqb y 1 ≡ true) → (eqb y 1 ≡ true → eqb x 1 ≡ true) → x ≡ y
-same-bit zero zero hx hy f g = refl
-same-bit zero (suc zero) hx hy f g = absurd (false≢true (g refl))
-same-bit (suc zero) zero hx hy f g = absurd (false≢true (f refl))
-same-bit (suc zero) (suc zero) hx hy f g = refl
-same-bit zero (suc (suc y)) hx hy f g = not-bit hy
-same-bit (suc zero) (suc (suc y)) hx hy f g = not-bit hy
-same-bit (suc (suc x)) y hx hy f g = not-bit hx
+same-bit =
+    each-bits (λ x y. (eqb x 1 ≡ true → eqb y 1 ≡ true) → (eqb y 1 ≡ true → eqb x 1 ≡ true) → x ≡ y) (λ f g. refl)
+    (λ f g. absurd (false≢true (g refl))) (λ f g. absurd (false≢true (f refl))) (λ f g. refl)
 
 by-halves : (a b : ℕ) → a / 2 ≡ b / 2 → a % 2 ≡ b % 2 → a ≡ b
 by-halves a b high low = omega arith

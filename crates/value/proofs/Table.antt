@@ -2,7 +2,7 @@
 use mathlib.Core.Path.{_≡_, refl, sym, _∙_, ap}
 use mathlib.Core.Bool.{Bool, false, cond, _&&_}
 use mathlib.Core.List.{List, map}
-use Prim.Native.Nat.{ℕ, zero, suc, _<_, _≤_}
+use Prim.Native.Nat.{ℕ, _<_, _≤_}
 use native.Mathlib.Omega.{arith}
 use lib.Dec.{lit<}
 use lib.ListN.{getD}
@@ -12,6 +12,7 @@ use Rattle.std.proofs.shelf.Tests.{cond-both}
 use Rattle.value.specs.Sets.{has, only}
 use Rattle.value.specs.Membership.{noneBelow}
 use Rattle.value.specs.Smallest.{firstIn, nineDigits, smallestOf, everySmallest}
+use Rattle.value.proofs.Cases.{each-digit}
 
 pub at-table : (s : ℕ) → s < 512 → getD everySmallest s 0 ≡ smallestOf s
 unfolding smallestOf
@@ -26,21 +27,13 @@ smallest-below s =
     either s 1 _ (lit< tt) (either s 2 _ (lit< tt) (either s 3 _ (lit< tt) (either s 4 _ (lit< tt) (either s 5 _ (lit< tt)
     (either s 6 _ (lit< tt) (either s 7 _ (lit< tt) (either s 8 _ (lit< tt) (either s 9 0 (lit< tt) (lit< tt)))))))))
 
--- a digit is in the set of the smallest where it is in the set and none below it is: computed at each set
+-- at each set, which antt computes: a digit is the smallest where it is in the set and none below it is
 smallest-column : (d : ℕ) → 1 ≤ d → d ≤ 9
     → map (λ s. has (smallestOf s) d) (counting 0 512) ≡ map (λ s. has s d && noneBelow s d) (counting 0 512)
 unfolding smallestOf
-smallest-column zero lo hi = absurd (omega arith)
-smallest-column (suc zero) lo hi = refl
-smallest-column (suc (suc zero)) lo hi = refl
-smallest-column (suc (suc (suc zero))) lo hi = refl
-smallest-column (suc (suc (suc (suc zero)))) lo hi = refl
-smallest-column (suc (suc (suc (suc (suc zero))))) lo hi = refl
-smallest-column (suc (suc (suc (suc (suc (suc zero)))))) lo hi = refl
-smallest-column (suc (suc (suc (suc (suc (suc (suc zero))))))) lo hi = refl
-smallest-column (suc (suc (suc (suc (suc (suc (suc (suc zero)))))))) lo hi = refl
-smallest-column (suc (suc (suc (suc (suc (suc (suc (suc (suc zero))))))))) lo hi = refl
-smallest-column (suc (suc (suc (suc (suc (suc (suc (suc (suc (suc d)))))))))) lo hi = absurd (omega arith)
+smallest-column =
+    each-digit (λ d. map (λ s. has (smallestOf s) d) (counting 0 512) ≡ map (λ s. has s d && noneBelow s d) (counting 0 512))
+    refl refl refl refl refl refl refl refl refl
 
 pub smallest-has : (a d : ℕ) → a < 512 → 1 ≤ d → d ≤ 9 → has (smallestOf a) d ≡ (has a d && noneBelow a d)
 smallest-has a d h lo hi =
