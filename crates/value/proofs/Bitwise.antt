@@ -1,43 +1,24 @@
 -- What the operations on sets do to each digit, by its bit.
 use mathlib.Core.Path.{_≡_, refl, _∙_, ap}
 use mathlib.Core.Bool.{Bool, true, false, not, _&&_, _||_}
-use Prim.Native.Nat.{ℕ, zero, suc, _-_, _/_, _%_, _^_, _<_, _≤_}
+use Prim.Native.Nat.{ℕ, _-_, _/_, _%_, _^_, _<_, _≤_}
 use native.Mathlib.Nat.{mod-lt, mod-eq-of-lt}
 use native.Mathlib.Omega.{arith}
 use lib.Bits.{bitAnd, bitOr, bitXor, and-shr, and-mod, or-shr, or-mod, xor-shr, xor-mod, and-mask, xor-add-and, or-lt}
 use lib.Dec.{eqb, lit<}
-use Rattle.value.specs.Sets.{has, unionOf, common, inJustOne, outside, without, inNeither}
+use Rattle.value.specs.Sets.{has, unionOf, common, inJustOne, outside}
 use Rattle.value.specs.Membership.{oneOf, Sets-stand}
-
-not-bit : {A : Type 0} {x : ℕ} → suc (suc x) < 2 → A
-not-bit h = absurd (omega arith)
+use Rattle.value.proofs.Cases.{each-bits, each-digit}
+use Rattle.value.proofs.Table.{smallest-has}
 
 or-bit : (x y : ℕ) → x < 2 → y < 2 → eqb (bitOr x y) 1 ≡ (eqb x 1 || eqb y 1)
-or-bit zero zero hx hy = refl
-or-bit zero (suc zero) hx hy = refl
-or-bit (suc zero) zero hx hy = refl
-or-bit (suc zero) (suc zero) hx hy = refl
-or-bit zero (suc (suc y)) hx hy = not-bit hy
-or-bit (suc zero) (suc (suc y)) hx hy = not-bit hy
-or-bit (suc (suc x)) y hx hy = not-bit hx
+or-bit = each-bits (λ x y. eqb (bitOr x y) 1 ≡ (eqb x 1 || eqb y 1)) refl refl refl refl
 
 and-bit : (x y : ℕ) → x < 2 → y < 2 → eqb (bitAnd x y) 1 ≡ (eqb x 1 && eqb y 1)
-and-bit zero zero hx hy = refl
-and-bit zero (suc zero) hx hy = refl
-and-bit (suc zero) zero hx hy = refl
-and-bit (suc zero) (suc zero) hx hy = refl
-and-bit zero (suc (suc y)) hx hy = not-bit hy
-and-bit (suc zero) (suc (suc y)) hx hy = not-bit hy
-and-bit (suc (suc x)) y hx hy = not-bit hx
+and-bit = each-bits (λ x y. eqb (bitAnd x y) 1 ≡ (eqb x 1 && eqb y 1)) refl refl refl refl
 
 xor-bit : (x y : ℕ) → x < 2 → y < 2 → eqb (bitXor x y) 1 ≡ oneOf (eqb x 1) (eqb y 1)
-xor-bit zero zero hx hy = refl
-xor-bit zero (suc zero) hx hy = refl
-xor-bit (suc zero) zero hx hy = refl
-xor-bit (suc zero) (suc zero) hx hy = refl
-xor-bit zero (suc (suc y)) hx hy = not-bit hy
-xor-bit (suc zero) (suc (suc y)) hx hy = not-bit hy
-xor-bit (suc (suc x)) y hx hy = not-bit hx
+xor-bit = each-bits (λ x y. eqb (bitXor x y) 1 ≡ oneOf (eqb x 1) (eqb y 1)) refl refl refl refl
 
 -- an operation that works on each place alone says of a digit what it says of two bits
 module _ (f : ℕ → ℕ → ℕ) (g : Bool → Bool → Bool)
@@ -53,7 +34,7 @@ module _ (f : ℕ → ℕ → ℕ) (g : Bool → Bool → Bool)
 union-has : (a b d : ℕ) → has (unionOf a b) d ≡ (has a d || has b d)
 union-has = by-bit bitOr _||_ or-shr or-mod or-bit
 
-common-has : (a b d : ℕ) → has (common a b) d ≡ (has a d && has b d)
+pub common-has : (a b d : ℕ) → has (common a b) d ≡ (has a d && has b d)
 common-has = by-bit bitAnd _&&_ and-shr and-mod and-bit
 
 one-has : (a b d : ℕ) → has (inJustOne a b) d ≡ oneOf (has a d) (has b d)
@@ -61,17 +42,7 @@ one-has = by-bit bitXor oneOf xor-shr xor-mod xor-bit
 
 -- all nine digits are in 511
 all-has : (d : ℕ) → 1 ≤ d → d ≤ 9 → has 511 d ≡ true
-all-has zero lo hi = absurd (omega arith)
-all-has (suc zero) lo hi = refl
-all-has (suc (suc zero)) lo hi = refl
-all-has (suc (suc (suc zero))) lo hi = refl
-all-has (suc (suc (suc (suc zero)))) lo hi = refl
-all-has (suc (suc (suc (suc (suc zero))))) lo hi = refl
-all-has (suc (suc (suc (suc (suc (suc zero)))))) lo hi = refl
-all-has (suc (suc (suc (suc (suc (suc (suc zero))))))) lo hi = refl
-all-has (suc (suc (suc (suc (suc (suc (suc (suc zero)))))))) lo hi = refl
-all-has (suc (suc (suc (suc (suc (suc (suc (suc (suc zero))))))))) lo hi = refl
-all-has (suc (suc (suc (suc (suc (suc (suc (suc (suc (suc d)))))))))) lo hi = absurd (omega arith)
+all-has = each-digit (λ d. has 511 d ≡ true) refl refl refl refl refl refl refl refl refl
 
 -- what is outside a set is in just one of the set and all nine
 outside-xor : (a : ℕ) → a < 512 → outside a ≡ inJustOne a 511
@@ -100,4 +71,5 @@ stands a b d ha hb lo hi = (
   one-has a b d,
   outside-has a d ha lo hi,
   outside-has (unionOf a b) d (or-lt 9 a b ha hb) lo hi ∙ ap not (union-has a b d) ∙ not-or (has a d) (has b d),
+  smallest-has a d ha lo hi,
 )

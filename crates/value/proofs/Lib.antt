@@ -1,2 +1,4 @@
+pub mod Cases
 pub mod Table
 pub mod Bitwise
+pub mod Comparisons

@@ -9,6 +9,7 @@ use Rattle.value.specs.Truth.{flag}
 abbrev pub quotientOf : ℕ → ℕ → ℕ
 quotientOf a b = cond (eqb b 0) 0 (a / b)
 
+-- by the operation's number: sum, difference and product wrap around, quotient, less than, equal, bitwise and, bitwise or
 abbrev pub numbers : ℕ → ℕ → ℕ → ℕ
 numbers op a b =
     cond (eqb op 0) ((a + b) % 2 ^ 32)

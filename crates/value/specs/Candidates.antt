@@ -6,6 +6,7 @@ use Rattle.value.specs.Sets.{unionOf, common, inJustOne, without, inNeither, w
 use Rattle.value.specs.Smallest.{smallestOf}
 use Rattle.value.specs.Truth.{flag}
 
+-- by the operation's number
 abbrev pub candidates : ℕ → ℕ → ℕ → ℕ
 candidates op a b =
     cond (eqb op 0) (unionOf a b)

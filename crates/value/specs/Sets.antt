@@ -31,5 +31,6 @@ without a b = common a (outside b)
 abbrev pub inNeither : ℕ → ℕ → ℕ
 inNeither a b = outside (unionOf a b)
 
+-- the set lies within the other
 abbrev pub within : ℕ → ℕ → Bool
 within a b = eqb (common a b) a

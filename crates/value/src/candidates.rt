@@ -40,7 +40,7 @@ pub impl Value for Candidates as CandidateSets {
     }
 
     fn truth(self) -> bool {
-        DigitSet::of(self.0).plain() != 0
+        self.code() != 0
     }
 
     fn code(self) -> u32 {

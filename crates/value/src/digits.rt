@@ -2,8 +2,9 @@
 ghost use mathlib.Core.Path.{_≡_};
 ghost use Prim.Native.Nat.{_%_, _<_};
 ghost use lib.Dec.{eqb};
+ghost use lib.ListN.{getD};
 ghost use Rattle.value.specs.Sets.{unionOf, common, inJustOne, outside, without, within};
-ghost use Rattle.value.specs.Smallest.{smallestOf};
+ghost use Rattle.value.specs.Smallest.{smallestOf, everySmallest};
 ghost use Rattle.value.specs.Truth.{flag};
 use crate::smallest::SMALLEST;
 
@@ -19,7 +20,7 @@ impl DigitSet {
         ensures { λ r. ⌜ r .bits ≡ plain % 512 ⌝ }
     {
         DigitSet {
-            bits: (plain & 511) as u16,
+            bits: low_nine(plain) as u16,
         }
     }
 
@@ -80,7 +81,7 @@ impl DigitSet {
         ensures { λ r. ⌜ r .bits ≡ smallestOf (self .bits) ⌝ }
     {
         DigitSet {
-            bits: SMALLEST[self.bits as usize],
+            bits: entry_of(self),
         }
     }
 
@@ -95,4 +96,17 @@ impl DigitSet {
     {
         self.intersection(other).same_as(self)
     }
+}
+
+fn low_nine(plain: u32) -> u32
+    ensures { λ r. ⌜ r ≡ plain % 512 ⌝ }
+{
+    plain & 511
+}
+
+// What the table has for the set.
+fn entry_of(set: DigitSet) -> u16
+    ensures { λ r. ⌜ r ≡ getD everySmallest (set .bits) 0 ⌝ }
+{
+    SMALLEST[set.bits as usize]
 }

@@ -11,4 +11,5 @@ pub use candidates::Candidates;
 pub use kinds::Value;
 pub use number::Number;
 pub use number::Numbers;
+pub use sets::comparisons_stand;
 pub use sets::sets_stand;
