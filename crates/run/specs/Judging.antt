@@ -3,6 +3,8 @@ use mathlib.Core.Path.{_≡_}
 use mathlib.Core.Bool.{Bool, cond}
 use mathlib.Core.List.{List, map}
 use Prim.Native.Nat.{ℕ}
+use Rattle.std.specs.declared.option.Option.{Option}
+use Rattle.std.specs.declared.option.Option.the-variants.{Some, None}
 use Rattle.std.specs.declared.result.Result.{Result}
 use Rattle.std.specs.declared.result.Result.the-variants.{Ok, Err}
 use Rattle.sheet.specs.Layout.{Program}
@@ -11,6 +13,7 @@ use Rattle.sheet.specs.declared.lines.Line.{Line}
 use Rattle.value.specs.declared.kinds.Value.{Ghosts}
 use Rattle.run.specs.Values.{Values, kindOf, isTrue}
 use Rattle.run.specs.Branching.{Out, went, broke, branching}
+use Rattle.run.specs.Machine.{State}
 use Rattle.run.specs.declared.faults.RunFault.{RunFault}
 use Rattle.run.specs.declared.verdicts.Verdict.{Verdict}
 use Rattle.run.specs.declared.verdicts.Verdict.the-variants.{Right, Wrong, Void}
@@ -24,6 +27,19 @@ cellsOf (broke l w) = w
 abbrev pub verdictOf : Values → ℕ → Out → Verdict
 verdictOf v x (went w) = cond (isTrue v w x) Right Wrong
 verdictOf v x (broke l w) = Void l
+
+-- The line that a run of the one path blames: the latched one, else that at which it broke.
+abbrev pub blamed : Option ℕ → Option ℕ → Option ℕ
+blamed (Some l) b = Some l
+blamed None b = b
+
+abbrev pub verdictBy : Values → ℕ → List ℕ → Option ℕ → Verdict
+verdictBy v x w (Some l) = Void l
+verdictBy v x w None = cond (isTrue v w x) Right Wrong
+
+-- what a run of the one path that is over comes to
+abbrev pub pathVerdict : Values → ℕ → State → Verdict
+pathVerdict v x s = verdictBy v x (s .cells) (blamed (s .track .latch) (s .track .broken))
 
 -- A sheet is judged exactly where it is read and there are as many cells as it has: the verdict is what its
 -- branching run from these cells comes to, and the cells are those with which that run ends. Else nothing is moved.

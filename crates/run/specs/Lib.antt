@@ -5,3 +5,4 @@ pub mod Moves
 pub mod Laws
 pub mod Refusals
 pub mod Judging
+pub mod Examples
