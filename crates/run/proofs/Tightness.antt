@@ -1,24 +1,25 @@
--- Where a marking meets the rules, nothing uncovered is steered or fed by a covered cell.
+-- Where the marks meet the rules, no covered cell steers a run or reaches an uncovered cell.
 use mathlib.Core.Path.{_≡_, refl}
-use mathlib.Core.List.{List, [], _∷_}
+use mathlib.Core.List.{List, [], _∷_, _++_}
 use mathlib.Core.Bool.{Bool, true, false, _||_}
 use mathlib.Core.Logic.{_⊎_, inl, inr}
 use Prim.Native.Nat.{ℕ, zero, suc, _+_}
 use native.Mathlib.Omega.{arith}
+use lib.ListN.{length}
 use Rattle.std.specs.shelf.Lists.{All}
 use Rattle.std.proofs.shelf.Elements.{all-append}
 use Rattle.std.proofs.shelf.Tests.{both-ways, true≢false, or-parts}
-use Rattle.sheet.specs.Code.{Code, stop, work, literal, choose, repeat}
+use Rattle.sheet.specs.Code.{Code, stop, work, literal, choose, repeat, sizeOf}
 use Rattle.marking.specs.Rules.{AtLeast, AtLeastAll, Follows}
-use Rattle.onepath.specs.Cover.{loopCovered, levelIn}
+use Rattle.onepath.specs.Cover.{loopCovered, levelIn, loopsIn}
 use Rattle.onepath.specs.Own.{ifHead, ifMiddle, loopHead, loopTest, loopBack, loopEnd}
 use Rattle.onepath.specs.Listed.{stepsOf}
 use Rattle.onepath.specs.Holds.{stepAt}
 use Rattle.onepath.specs.declared.steps.Step.{Step}
 use Rattle.onepath.specs.declared.steps.Step.the-variants.{Work, Literal, Ask, Turn, Setout, Narrow, Again, Close, Branch, Jump, Enter, Test}
 
--- A line that writes to an uncovered cell is at level 0 and reads uncovered cells, and so does a step that chooses
--- the next place.
+-- A step that writes to an uncovered cell is at level 0 and reads only uncovered cells, and a step that tests a cell
+-- to choose the next place tests an uncovered one.
 abbrev pub Tight : (ℕ → Bool) → Step → Type 0
 Tight covered (Work k t o a b) = (covered t ≡ true) ⊎ ((covered a ≡ false) × (covered b ≡ false) × (k ≡ 0))
 Tight covered (Literal k t n) = (covered t ≡ true) ⊎ (k ≡ 0)
@@ -33,7 +34,7 @@ Tight covered (Jump i) = Unit {0}
 Tight covered (Enter d) = Unit {0}
 Tight covered (Test d x n i l) = covered x ≡ false
 
--- what is at least another is covered, or the other is not
+-- a mark that is at least another is yes, or the other is no
 at-least : (x y : Bool) → AtLeast _||_ x y → (x ≡ true) ⊎ (y ≡ false)
 at-least true y h = inl refl
 at-least false y h = inr h
@@ -64,9 +65,10 @@ module _ (covered : ℕ → Bool) where
 
   tight-work : (k t o a b : ℕ) (around : List ℕ) → Reached k around → AtLeast _||_ (covered t) (covered a || covered b) → AtLeastAll _||_ covered (covered t) around → Tight covered (Work k t o a b)
   tight-work k t o a b around s h g =
-      elim (s (covered t) g)
-      [ inl c ↦ inl c
-      | inr z ↦ elim (at-least (covered t) (covered a || covered b) h) [ inl c ↦ inl c | inr f ↦ let p = or-parts (covered a) (covered b) f in inr (p .0, p .1, z) ] ]
+      elim (s (covered t) g) [
+        | inl c ↦ inl c
+        | inr z ↦ elim (at-least (covered t) (covered a || covered b) h) [ inl c ↦ inl c | inr f ↦ let p = or-parts (covered a) (covered b) f in inr (p .0, p .1, z) ]
+      ]
 
   -- the steps that a construct has of its own
   tight-if : (b : Bool) (k x i : ℕ) → covered x ≡ b → Tight covered (ifHead b k x i)
@@ -99,15 +101,37 @@ module _ (covered : ℕ → Bool) where
   tight-steps (literal t n r) k d l i around s (g, f) = (s (covered t) g, tight-steps r k d (l + 1) (i + 1) around s f)
   tight-steps (choose x p q r) k d l i around s (f, g, h) =
       let b = covered x in
+      let own = levelIn b k in
       let inside = reached-if x around b k refl s in
-      (tight-if b _ x _ refl,
-        all-append (Tight covered) _ _ (tight-steps p _ d _ _ (x ∷ around) inside f)
-        (tight-middle b _ _, all-append (Tight covered) _ _ (tight-steps q _ d _ _ (x ∷ around) inside g) (tight-steps r k d _ _ around s h)))
+      let else = l + 1 + sizeOf p in
+      let end = else + 1 + sizeOf q in
+      let ps = stepsOf covered own d (l + 1) (i + 1) p in
+      let m = i + 1 + length ps in
+      let qs = stepsOf covered own d (else + 1) (m + 1) q in
+      let j = m + 1 + length qs in
+      let rs = stepsOf covered k d (end + 1) j r in (
+        tight-if b own x (m + 1) refl,
+        all-append (Tight covered) ps (ifMiddle b own j ∷ (qs ++ rs)) (tight-steps p own d (l + 1) (i + 1) (x ∷ around) inside f) (
+          tight-middle b own j,
+          all-append (Tight covered) qs rs (tight-steps q own d (else + 1) (m + 1) (x ∷ around) inside g) (tight-steps r k d (end + 1) j around s h),
+        ),
+      )
   tight-steps (repeat x n p r) k d l i around s (f, h) =
       let b = loopCovered covered k x in
-      (tight-loop b _ d, (tight-test b k _ d x n _ l refl,
-        all-append (Tight covered) _ _ (tight-steps p _ _ _ _ (x ∷ around) (reached-loop x around b k refl s) f)
-        (tight-back b _ n _, all-append (Tight covered) _ _ (tight-end b _ x l) (tight-steps r k d _ _ around s h))))
+      let own = levelIn b k in
+      let end = l + 1 + sizeOf p in
+      let ps = stepsOf covered own (loopsIn b d) (l + 1) (i + 2) p in
+      let m = i + 2 + length ps in
+      let es = loopEnd b own x l in
+      let j = m + 1 + length es in
+      let rs = stepsOf covered k d (end + 1) j r in (
+        tight-loop b own d,
+        (
+          tight-test b k own d x n (m + 1) l refl,
+          all-append (Tight covered) ps (loopBack b own n (i + 1) ∷ (es ++ rs)) (tight-steps p own (loopsIn b d) (l + 1) (i + 2) (x ∷ around) (reached-loop x around b k refl s) f)
+              (tight-back b own n (i + 1), all-append (Tight covered) es rs (tight-end b own x l) (tight-steps r k d (end + 1) j around s h)),
+        ),
+      )
 
   all-at : (ts : List Step) (i : ℕ) → All (Tight covered) ts → Tight covered (stepAt ts i)
   all-at [] i a = tt

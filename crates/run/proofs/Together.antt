@@ -2,8 +2,8 @@
 use mathlib.Core.Path.{_≡_, refl, ap, _∙_, sym}
 use mathlib.Core.List.{List}
 use mathlib.Core.Bool.{Bool, true, false, cond, _||_}
-use mathlib.Core.Logic.{inl, inr, _≢_}
-use Prim.Native.Nat.{ℕ, zero, suc, _+_, _<_, _≤_}
+use mathlib.Core.Logic.{inl, inr}
+use Prim.Native.Nat.{ℕ, zero, suc}
 use lib.Dec.{eqb, leb}
 use lib.ListN.{length, getD, set}
 use Rattle.std.specs.Options.{isSome}
@@ -15,7 +15,7 @@ use Rattle.onepath.specs.Listed.{stepsOf}
 use Rattle.onepath.specs.declared.steps.Step.{Step}
 use Rattle.onepath.specs.declared.steps.Step.the-variants.{Work, Literal, Ask, Turn, Setout, Narrow, Again, Close, Branch, Jump, Enter, Test}
 use Rattle.run.specs.Values.{Values, isTrue}
-use Rattle.run.specs.Machine.{State, at, act, next, steps, fresh, cleared, counterAt, loopAt, oneMore}
+use Rattle.run.specs.Machine.{State, at, act, next, steps, fresh, loopAt}
 use Rattle.run.specs.Laws.{Alike, Lockstep}
 use Rattle.run.specs.declared.registers.Registers.{Registers}
 use Rattle.run.proofs.Tightness.{Tight, tight-at}
@@ -23,11 +23,13 @@ use Rattle.run.proofs.Tightness.{Tight, tight-at}
 -- a write of the same to both lists
 set-both : (w u : List ℕ) (t y x e : ℕ) → length w ≡ length u → getD w x e ≡ getD u x e → getD (set w t y) x e ≡ getD (set u t y) x e
 set-both w u t y x e l h =
-    elim (cases-eq x t)
-    [ inl p ↦ elim (cases-lt t (length w))
-      [ inl q ↦ rw (p, getD-set-same w t y e q, getD-set-same u t y e (rw l at q))
-      | inr q ↦ rw (set-past w t y q, set-past u t y (rw l at q)) h ]
-    | inr n ↦ getD-set-other w t x y e n ∙ h ∙ sym (getD-set-other u t x y e n) ]
+    elim (cases-eq x t) [
+      | inl p ↦ elim (cases-lt t (length w)) [
+        | inl q ↦ rw (p, getD-set-same w t y e q, getD-set-same u t y e (rw l at q))
+        | inr q ↦ rw (set-past w t y q, set-past u t y (rw l at q)) h
+      ]
+      | inr n ↦ getD-set-other w t x y e n ∙ h ∙ sym (getD-set-other u t x y e n)
+    ]
 
 -- what two runs have in common: their flags, guards and latches may differ
 pub record Together (covered : ℕ → Bool) (s t : State) : Type 0 where

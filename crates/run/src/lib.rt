@@ -3,6 +3,7 @@ mod laws;
 mod registers;
 mod track;
 
-pub use laws::{agreement_stands, lockstep_stands};
+pub use laws::agreement_stands;
+pub use laws::lockstep_stands;
 pub use registers::Registers;
 pub use track::Track;
