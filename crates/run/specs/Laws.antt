@@ -1,13 +1,14 @@
--- What ties the two forms of a sheet.
+-- What ties the two forms of a sheet, and two runs of its one path.
 use mathlib.Core.Path.{_≡_}
-use mathlib.Core.Bool.{Bool}
+use mathlib.Core.Bool.{Bool, false, _||_}
 use mathlib.Core.Logic.{_⊎_}
-use mathlib.Core.List.{List}
+use mathlib.Core.List.{List, []}
 use Prim.Native.Nat.{ℕ}
-use lib.ListN.{length}
+use lib.ListN.{length, getD}
 use Rattle.std.specs.declared.option.Option.{Option}
 use Rattle.std.specs.declared.option.Option.the-variants.{Some, None}
 use Rattle.sheet.specs.Code.{Code, Keeps}
+use Rattle.marking.specs.Rules.{Follows}
 use Rattle.onepath.specs.Listed.{stepsOf}
 use Rattle.run.specs.Values.{Values}
 use Rattle.run.specs.Branching.{Out, went, broke, branching}
@@ -26,3 +27,17 @@ abbrev pub Agreement : Type 0
 Agreement =
     (v : Values) (covered : ℕ → Bool) (cells : ℕ) (code : Code) (w : List ℕ) → Keeps cells 6 code →
     (n : ℕ) × ComesTo (length (stepsOf covered 0 0 0 0 code)) (branching v code 0 w) (steps v (stepsOf covered 0 0 0 0 code) n (fresh w))
+
+-- the cells that are not covered are alike
+abbrev pub Alike : (ℕ → Bool) → List ℕ → List ℕ → Type 0
+Alike covered w u = (length w ≡ length u) × ((x : ℕ) → covered x ≡ false → (e : ℕ) → getD w x e ≡ getD u x e)
+
+-- Lockstep: two runs of one sheet whose uncovered cells are alike visit the same places, break together at the same
+-- line, and keep their uncovered cells alike, whatever the covered cells hold.
+abbrev pub Lockstep : Type 0
+Lockstep =
+    (v : Values) (covered : ℕ → Bool) (code : Code) → Follows _||_ covered [] code → (w u : List ℕ) → Alike covered w u → (n : ℕ) →
+    let ts = stepsOf covered 0 0 0 0 code in
+    let s = steps v ts n (fresh w) in
+    let t = steps v ts n (fresh u) in
+    (s .track .place ≡ t .track .place) × (s .track .broken ≡ t .track .broken) × Alike covered (s .cells) (t .cells)

@@ -1,9 +1,17 @@
+// Why the one path is right.
 ghost use Rattle.run.specs.Examples.{Examples};
-ghost use Rattle.run.specs.Laws.{Agreement};
+ghost use Rattle.run.specs.Laws.{Agreement, Lockstep};
 
 // From any cells the one path comes to an end, and to what the branching run comes to.
 pub fn agreement_stands() -> u8
     ensures { λ _. ⌜ Agreement ⌝ }
+{
+    0
+}
+
+// Two runs whose uncovered cells agree go the same way.
+pub fn lockstep_stands() -> u8
+    ensures { λ _. ⌜ Lockstep ⌝ }
 {
     0
 }

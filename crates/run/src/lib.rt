@@ -17,6 +17,7 @@ pub use faults::RunFaultFromRead;
 pub use judging::judge;
 pub use laws::agreement_stands;
 pub use laws::examples_stand;
+pub use laws::lockstep_stands;
 pub use machine::is_over;
 pub use machine::run_steps;
 pub use machine::step;
