@@ -4,5 +4,6 @@ mod registers;
 mod track;
 
 pub use laws::agreement_stands;
+pub use laws::ending_stands;
 pub use registers::Registers;
 pub use track::Track;
