@@ -1,18 +1,18 @@
 -- What ties the two forms of a sheet, and two runs of its one path.
 use mathlib.Core.Path.{_≡_}
-use mathlib.Core.Bool.{Bool, false, _||_}
+use mathlib.Core.Bool.{Bool, true, false, _||_}
 use mathlib.Core.Logic.{_⊎_}
 use mathlib.Core.List.{List, []}
-use Prim.Native.Nat.{ℕ}
+use Prim.Native.Nat.{ℕ, _+_, _*_}
 use lib.ListN.{length, getD}
 use Rattle.std.specs.declared.option.Option.{Option}
 use Rattle.std.specs.declared.option.Option.the-variants.{Some, None}
-use Rattle.sheet.specs.Code.{Code, Keeps}
+use Rattle.sheet.specs.Code.{Code, stop, work, literal, choose, repeat, Keeps}
 use Rattle.marking.specs.Rules.{Follows}
 use Rattle.onepath.specs.Listed.{stepsOf}
 use Rattle.run.specs.Values.{Values}
 use Rattle.run.specs.Branching.{Out, went, broke, branching}
-use Rattle.run.specs.Machine.{State, steps, fresh}
+use Rattle.run.specs.Machine.{State, isOver, steps, fresh}
 
 -- The one path came to what the branching run comes to: to its end, with its cells and nothing latched, or to a
 -- break or an end that blames the line at which the branching run breaks. A latch comes before a break.
@@ -27,6 +27,21 @@ abbrev pub Agreement : Type 0
 Agreement =
     (v : Values) (covered : ℕ → Bool) (cells : ℕ) (code : Code) (w : List ℕ) → Keeps cells 6 code →
     (n : ℕ) × ComesTo (length (stepsOf covered 0 0 0 0 code)) (branching v code 0 w) (steps v (stepsOf covered 0 0 0 0 code) n (fresh w))
+
+-- the most steps that a run of the code takes, whatever is covered and whatever the cells hold
+abbrev pub mostSteps : Code → ℕ
+mostSteps stop = 0
+mostSteps (work t o a b r) = 1 + mostSteps r
+mostSteps (literal t n r) = 1 + mostSteps r
+mostSteps (choose x p q r) = 2 + mostSteps p + mostSteps q + mostSteps r
+mostSteps (repeat x n p r) = 2 + n * (2 + mostSteps p) + mostSteps r
+
+-- Ending: from any cells, whatever is covered, the one path is over after so many steps.
+abbrev pub Ending : Type 0
+Ending =
+    (v : Values) (covered : ℕ → Bool) (cells : ℕ) (code : Code) (w : List ℕ) → Keeps cells 6 code →
+    let ts = stepsOf covered 0 0 0 0 code in
+    isOver (length ts) (steps v ts (mostSteps code) (fresh w)) ≡ true
 
 -- the cells that are not covered are alike
 abbrev pub Alike : (ℕ → Bool) → List ℕ → List ℕ → Type 0

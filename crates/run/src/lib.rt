@@ -16,6 +16,7 @@ pub use faults::RunFault;
 pub use faults::RunFaultFromRead;
 pub use judging::judge;
 pub use laws::agreement_stands;
+pub use laws::ending_stands;
 pub use laws::examples_stand;
 pub use laws::lockstep_stands;
 pub use machine::is_over;

@@ -1,0 +1,5 @@
+use Rattle.run.proofs.Simulation.{ending}
+use Rattle.run.proofs.laws.ending_stands.Needs as need
+
+pub returns : need.returns
+returns c = ending
