@@ -5,10 +5,10 @@ ghost use Rattle.sheet.specs.Results.{found};
 ghost use Rattle.run.specs.Judging.{Judges};
 ghost use Rattle.run.specs.Refusals.{runFault};
 use crate::branching::run_block;
-use crate::cells::cell;
 use crate::faults::RunFault;
 use crate::faults::RunFaultFromRead;
 use crate::verdicts::Verdict;
+use crate::verdicts::verdict_in;
 use sheet::Line;
 use sheet::check_table;
 use sheet::read;
@@ -28,12 +28,6 @@ pub fn judge<V: Value>(
         return Err(RunFault::Cells);
     }
     let sheet = read(bytes, lines)?;
-    if let Some(line) = run_block(lines, 0, sheet.lines, cells) {
-        return Ok(Verdict::Void { line });
-    }
-    Ok(if cell(cells, sheet.verdict).truth() {
-        Verdict::Right
-    } else {
-        Verdict::Wrong
-    })
+    let broke = run_block(lines, 0, sheet.lines, cells);
+    Ok(verdict_in(cells, sheet.verdict, broke))
 }

@@ -25,3 +25,4 @@ pub use machine::step;
 pub use registers::Registers;
 pub use track::Track;
 pub use verdicts::Verdict;
+pub use verdicts::path_verdict;
