@@ -1,4 +1,5 @@
 pub mod Values
 pub mod Branching
 pub mod Machine
+pub mod Trails
 pub mod Laws
