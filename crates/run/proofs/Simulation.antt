@@ -1,35 +1,29 @@
--- On the table of a code's steps the machine follows the code's walk, and so comes to what the branching run comes to.
-use mathlib.Core.Path.{_≡_, refl, sym, _∙_, ap, subst}
-use mathlib.Core.List.{List, [], _∷_, _++_}
+-- On the table of a code's steps the machine follows the code's walk.
+use mathlib.Core.Path.{_≡_, _∙_, subst}
+use mathlib.Core.List.{List, [], _∷_}
 use mathlib.Core.Bool.{Bool, true, false, cond, not, _&&_}
-use mathlib.Core.Logic.{inl, inr}
 use Prim.Native.Nat.{ℕ, zero, suc, _+_, _-_, _*_, _<_, _≤_}
 use native.Mathlib.Nat.{le-refl, suc-mul}
 use native.Mathlib.Omega.{arith}
 use lib.Dec.{ltb}
 use lib.ListN.{length}
-use Rattle.std.proofs.shelf.Lists.{append-nil}
-use Rattle.std.proofs.shelf.Tests.{le-leb, lt-ltb, le-ltb, eq-eqb, ne-eqb}
+use Rattle.std.proofs.shelf.Tests.{lt-ltb, le-ltb, eq-eqb, ne-eqb}
 use Rattle.std.specs.declared.option.Option.{Option}
-use Rattle.std.specs.declared.option.Option.the-variants.{Some, None}
 use Rattle.sheet.specs.Code.{Code, stop, work, literal, choose, repeat, sizeOf, Keeps}
 use Rattle.onepath.specs.Cover.{loopCovered, levelIn, loopsIn}
 use Rattle.onepath.specs.Own.{ifHead, ifMiddle, loopHead, loopTest, loopBack}
-use Rattle.onepath.specs.Listed.{stepsOf}
 use Rattle.onepath.specs.Holds.{stepAt, Holds, LoopEnd}
 use Rattle.onepath.specs.declared.steps.Step.{Step}
 use Rattle.onepath.specs.declared.steps.Step.the-variants.{Work, Literal, Narrow, Again, Close, Jump, Test}
-use Rattle.onepath.proofs.Front.{front-holds}
 use Rattle.onepath.proofs.Kept.{ends-le, holds-le}
 use Rattle.run.specs.Values.{Values, isTrue, worked, stated}
-use Rattle.run.specs.Branching.{Out, went, broke, branching}
-use Rattle.run.specs.Machine.{State, at, isOver, steps, cleared, fresh, flagAt, guardAt, counterAt, loopAt, flagged, guarded, counted, looped}
-use Rattle.run.specs.Trails.{Simple, didWork, didLiteral, trail, enabled}
-use Rattle.run.specs.Laws.{ComesTo, Agreement, mostSteps, Ending, Order, Disabled}
+use Rattle.run.specs.Machine.{at, flagAt, guardAt, counterAt, loopAt, flagged, guarded, counted, looped}
+use Rattle.run.specs.Trails.{Simple, didWork, didLiteral}
+use Rattle.run.specs.Laws.{mostSteps}
 use Rattle.run.specs.declared.registers.Registers.{Registers}
 use Rattle.run.proofs.Kept.{Sized, Kept, kept-all, kept-both, kept-less, kept-flagged, kept-guarded, kept-counted, kept-looped, flag-same, guard-same, counter-same, loop-same, guard-around, one-more}
-use Rattle.run.proofs.Walking.{Memory, does, memoryOf, Walk, on, off, onward, Form, inTurn, resting, doing, choosing, narrowing, circling, looping, walk, Agree, agrees}
-use Rattle.run.proofs.Following.{Reach, Follows, arrives, breaks, here, steps-both, enabled-both, grown, step, rebase, chain, jumping, by-test}
+use Rattle.run.proofs.Walking.{Memory, does, Walk, on, onward, Form, inTurn, resting, doing, choosing, narrowing, circling, looping, walk}
+use Rattle.run.proofs.Following.{Follows, arrives, breaks, here, grown, step, rebase, chain, jumping, by-test}
 
 -- from i to j the machine follows the walk, at level k with d open loops around, wherever it may take so many steps
 abbrev Sim : Values → List Step → ℕ → ℕ → ℕ → ℕ → ℕ → Form → Type 0
@@ -192,7 +186,7 @@ loops-most true k d = omega arith
 loops-most false k d = omega arith
 
 module _ (v : Values) (covered : ℕ → Bool) (ts : List Step) (cells : ℕ) where
-  sim : (deep k d l i j : ℕ) (c : Code) → Keeps cells deep c → k + d + deep ≤ 6 → Holds covered ts k d l i j c → j ≤ length ts → Sim v ts (mostSteps c) k d i j (walk v covered k l c)
+  pub sim : (deep k d l i j : ℕ) (c : Code) → Keeps cells deep c → k + d + deep ≤ 6 → Holds covered ts k d l i j c → j ≤ length ts → Sim v ts (mostSteps c) k d i j (walk v covered k l c)
   unfolding walk
   sim deep k d l i j stop s f h p = sim-rest v ts k d i j h
   sim deep k d l i j (work t o a b r) s f h p =
@@ -231,72 +225,3 @@ module _ (v : Values) (covered : ℕ → Bool) (ts : List Step) (cells : ℕ) wh
       (sim-looping v ts (mostSteps y) k d i m e x l _ q₁ (omega arith) (omega (arith, s .3)) b n (s .1) (s .2) (h .2) (h .3) (h .5) (h .6)
       (sim (deep - 1) (levelIn (loopCovered covered k x) k) (loopsIn (loopCovered covered k x) d) (l + 1) (i + 2) m y (s .4) u (h .4) (omega arith)))
       (sim deep k d (end + 1) e j r (s .5) f (h .7) p)
-
--- a machine that follows a walk comes to what the walk agrees with
-comes : {v : Values} {ts : List Step} {most k d e : ℕ} {r : Registers} {b : List Simple} {s : State} (o : Out) (c : List Simple) (x : Walk) → Agree o c x → Follows v ts most k d r b s e x →
-    (n : ℕ) × ComesTo e o (steps v ts n s)
-comes (went w) c (on u h) a (arrives t y b) = (b .number, rw (b .there) (refl, ap (λ z. memoryOf z .cells) a, cc, refl))
-comes (went w) c (off l h u) a (breaks i t b) = absurd (let z : _≡_ {A = ℕ} 0 1 = cc in omega arith)
-comes (broke l w) c (on u h) a (arrives t y b) = (b .number, rw (b .there) (inl (a .0, inl refl)))
-comes (broke l w) c (off m h u) (inl a, x) (breaks i t b) = (b .number, rw (b .there) (inl (a, inr (m, refl))))
-comes (broke l w) c (off m h u) (inr a, x) (breaks i t b) = (b .number, rw (b .there) (inr (a .0, ap Some (a .1))))
-
--- a run that is over stays as it is, and goes over nothing more
-module _ (v : Values) (ts : List Step) where
-  over-stays : (n : ℕ) (s : State) → isOver (length ts) s ≡ true → steps v ts n s ≡ s
-  over-stays zero s h = refl
-  over-stays (suc n) s h = rw h (over-stays n s h)
-
-  over-idle : (n : ℕ) (s : State) → isOver (length ts) s ≡ true → enabled v ts n s ≡ []
-  over-idle zero s h = refl
-  over-idle (suc n) s h = rw h (over-idle n s h)
-
--- the whole run has come to the state t, and gone over b
-pub record Whole (v : Values) (ts : List Step) (most : ℕ) (s : State) (b : List Simple) : Type 0 where
-  pub over : isOver (length ts) (steps v ts most s) ≡ true
-  pub told : enabled v ts most s ≡ b
-
-module _ {v : Values} {ts : List Step} where
-  whole-within : {n : ℕ} {s t : State} {b : List Simple} → isOver (length ts) t ≡ true → Reach v ts n [] s b t → Whole v ts n s b
-  whole-within {n} {s} {t} h b =
-      let m = b .number in
-      let e : n ≡ m + (n - m) = omega arith in
-      record {
-        over = rw (e, steps-both v ts m (n - m) s, b .there, over-stays v ts (n - m) t h) h;
-        told = rw (e, enabled-both v ts m (n - m) s, b .there, over-idle v ts (n - m) t h, append-nil (enabled v ts m s)) (b .told);
-      }
-
-  whole : {n k d : ℕ} {r : Registers} {s : State} {x : Walk} → Follows v ts n k d r [] s (length ts) x → Whole v ts n s (memoryOf x .trail)
-  whole (arrives t u b) = whole-within (le-leb (length ts) (length ts) (le-refl (length ts))) b
-  whole (breaks i t b) = whole-within refl b
-
--- what a walk that agrees has gone over
-in-order : (o : Out) (c : List Simple) (x : Walk) → Agree o c x → (rest : List Simple) × (memoryOf x .trail ≡ c ++ rest) × ((u : List ℕ) → o ≡ went u → rest ≡ [])
-in-order (went w) c x a = ([], ap (λ z. memoryOf z .trail) a ∙ sym (append-nil c), λ u q. refl)
-in-order (broke l w) c (on u h) a = (a .1 .0, a .1 .1, λ u q. absurd (let z : _≡_ {A = ℕ} 0 1 = cc in omega arith))
-in-order (broke l w) c (off m h u) a = (a .1 .0, a .1 .1, λ u q. absurd (let z : _≡_ {A = ℕ} 0 1 = cc in omega arith))
-
-abbrev begun : List ℕ → Memory
-begun w = record { cells = w; trail = [] }
-
-module _ (v : Values) (covered : ℕ → Bool) (cells : ℕ) (c : Code) (w : List ℕ) (s : Keeps cells 6 c) where
-  -- from its first step to its end the machine follows the walk
-  follows : Follows v (stepsOf covered 0 0 0 0 c) (mostSteps c) 0 0 cleared [] (fresh w) (length (stepsOf covered 0 0 0 0 c)) (walk v covered 0 0 c true (begun w) None)
-  follows =
-      let ts = stepsOf covered 0 0 0 0 c in
-      let z : Sized cleared = record { flags = refl; guards = refl; counters = refl; loops = refl } in
-      sim v covered ts cells 6 0 0 0 0 (length ts) c s (omega arith) (front-holds covered ts [] 0 0 0 c (sym (append-nil ts))) (le-refl (length ts)) (mostSteps c) (le-refl (mostSteps c)) cleared None (begun w) true z refl
-
-pub agreement : Agreement
-agreement v covered cells c w s = comes (branching v c 0 w) (trail v c 0 w) (walk v covered 0 0 c true (begun w) None) (agrees v covered 0 0 c (begun w)) (follows v covered cells c w s)
-
-pub ending : Ending
-ending v covered cells c w s = whole (follows v covered cells c w s) .over
-
-pub order : Order
-order v covered cells c w s =
-    let t = in-order (branching v c 0 w) (trail v c 0 w) (walk v covered 0 0 c true (begun w) None) (agrees v covered 0 0 c (begun w)) in
-    (t .0, whole (follows v covered cells c w s) .told ∙ t .1, t .2)
-
-pub disabled : Disabled
-disabled v k i r h w e = (λ t o a b. rw e, λ t n. rw e)

@@ -33,6 +33,10 @@ abbrev pub memoryOf : Walk → Memory
 memoryOf (on w h) = w
 memoryOf (off l h w) = w
 
+abbrev latchOf : Walk → Option ℕ
+latchOf (on w h) = h
+latchOf (off l h w) = h
+
 abbrev pub onward : Walk → (Memory → Option ℕ → Walk) → Walk
 onward (on w h) f = f w h
 onward (off l h w) f = off l h w
@@ -143,6 +147,7 @@ module _ (v : Values) (covered : ℕ → Bool) where
   idle k l (repeat x n y r) p =
       rw (loop-inside covered k x p) (idle-turn _ _ (idle-narrowing v x l _ (idle (k + 1) (l + 1) y (omega arith)) n true) (idle k _ r p))
 
+-- the second list begins with the first
 abbrev Extends : List Simple → List Simple → Type 0
 Extends a b = (rest : List Simple) × (b ≡ a ++ rest)
 
@@ -152,29 +157,27 @@ extends-same a = ([], sym (append-nil a))
 extends-both : (a b c : List Simple) → Extends a b → Extends b c → Extends a c
 extends-both a b c p q = (p .0 ++ q .0, q .1 ∙ ap (λ (s : List Simple). s ++ q .0) (p .1) ∙ append-assoc a (p .0) (q .0))
 
--- A latch stays, and what was gone over was.
-abbrev Latched : ℕ → List Simple → Walk → Type 0
-Latched l a (on w h) = (h ≡ Some l) × Extends a (w .trail)
-Latched l a (off m h w) = (h ≡ Some l) × Extends a (w .trail)
+-- A latch stays, and what was gone over stays gone over.
+record Latched (l : ℕ) (a : List Simple) (s : Walk) : Type 0 where
+  latch : latchOf s ≡ Some l
+  longer : Extends a (memoryOf s .trail)
 
 abbrev Stays : Form → Type 0
 Stays X = (g : Bool) (w : Memory) (l : ℕ) → Latched l (w .trail) (X g w (Some l))
 
-latched-longer : (l : ℕ) (a b : List Simple) (s : Walk) → Extends a b → Latched l b s → Latched l a s
-latched-longer l a b (on w h) x e = (e .0, extends-both a b (w .trail) x (e .1))
-latched-longer l a b (off m h w) x e = (e .0, extends-both a b (w .trail) x (e .1))
+latched-here : {l : ℕ} {w : Memory} {h : Option ℕ} → h ≡ Some l → Latched l (w .trail) (on w h)
+latched-here {w = w} e = record { latch = e; longer = extends-same (w .trail) }
 
-latched-onward : (l : ℕ) (a : List Simple) (s : Walk) (f : Memory → Option ℕ → Walk) → Latched l a s → ((w : Memory) → Latched l (w .trail) (f w (Some l))) → Latched l a (onward s f)
-latched-onward l a (on w h) f e k = rw (e .0) (latched-longer l a (w .trail) (f w (Some l)) (e .1) (k w))
-latched-onward l a (off m h w) f e k = e
+latched-longer : {l : ℕ} {a b : List Simple} {s : Walk} → Extends a b → Latched l b s → Latched l a s
+latched-longer {a = a} {b} {s} x e = record { latch = e .latch; longer = extends-both a b (memoryOf s .trail) x (e .longer) }
 
-latched-cond : (l : ℕ) (a : List Simple) (b : Bool) (s t : Walk) → Latched l a s → Latched l a t → Latched l a (cond b s t)
-latched-cond l a true s t x y = x
-latched-cond l a false s t x y = y
+latched-onward : {l : ℕ} {a : List Simple} (s : Walk) (f : Memory → Option ℕ → Walk) → Latched l a s → ((w : Memory) → Latched l (w .trail) (f w (Some l))) → Latched l a (onward s f)
+latched-onward (on w h) f e k = rw (e .latch) (latched-longer (e .longer) (k w))
+latched-onward (off m h w) f e k = record { latch = e .latch; longer = e .longer }
 
-latched-doing : (l : ℕ) (f : List ℕ → List ℕ) (a : Simple) (g : Bool) (w : Memory) → Latched l (w .trail) (on (cond g (does f a w) w) (Some l))
-latched-doing l f a true w = (refl, (a ∷ [], refl))
-latched-doing l f a false w = (refl, extends-same (w .trail))
+latched-cond : {l : ℕ} {a : List Simple} (b : Bool) (s t : Walk) → Latched l a s → Latched l a t → Latched l a (cond b s t)
+latched-cond true s t x y = x
+latched-cond false s t x y = y
 
 closing-latched : (b : Bool) (m l : ℕ) → closing b m (Some l) ≡ Some l
 closing-latched true m l = refl
@@ -182,31 +185,32 @@ closing-latched false m l = refl
 
 stays-turn : (X Y : Form) → Stays X → Stays Y → Stays (inTurn X Y)
 unfolding inTurn
-stays-turn X Y x y g w l = latched-onward l (w .trail) _ _ (x g w l) (λ w₁. y g w₁ l)
+stays-turn X Y x y g w l = latched-onward _ _ (x g w l) (λ w₁. y g w₁ l)
 
 stays-rest : Stays resting
 unfolding resting
-stays-rest g w l = (refl, extends-same (w .trail))
+stays-rest g w l = latched-here refl
 
 stays-doing : (f : List ℕ → List ℕ) (a : Simple) → Stays (doing (does f a))
 unfolding doing
-stays-doing f a g w l = latched-doing l f a g w
+stays-doing f a true w l = record { latch = refl; longer = (a ∷ [], refl) }
+stays-doing f a false w l = latched-here refl
 
 stays-choosing : (b : Bool) (v : Values) (x : ℕ) (X Y : Form) → Stays X → Stays Y → Stays (choosing b v x X Y)
 unfolding choosing
-stays-choosing true v x X Y p q g w l = latched-onward l (w .trail) _ _ (p (g && isTrue v (w .cells) x) w l) (λ w₁. q (g && not (isTrue v (w .cells) x)) w₁ l)
-stays-choosing false v x X Y p q g w l = latched-cond l (w .trail) (isTrue v (w .cells) x) _ _ (p g w l) (q g w l)
+stays-choosing true v x X Y p q g w l = latched-onward _ _ (p (g && isTrue v (w .cells) x) w l) (λ w₁. q (g && not (isTrue v (w .cells) x)) w₁ l)
+stays-choosing false v x X Y p q g w l = latched-cond (isTrue v (w .cells) x) _ _ (p g w l) (q g w l)
 
 module _ (v : Values) (x m : ℕ) (X : Form) (s : Stays X) where
   stays-narrowing : (n : ℕ) (q : Bool) → Stays (narrowing v x m X n q)
   unfolding narrowing
-  stays-narrowing zero q g w l = (closing-latched (g && (q && isTrue v (w .cells) x)) m l, extends-same (w .trail))
-  stays-narrowing (suc n) q g w l = latched-onward l (w .trail) _ _ (s (g && (q && isTrue v (w .cells) x)) w l) (λ w₁. stays-narrowing n (q && isTrue v (w .cells) x) g w₁ l)
+  stays-narrowing zero q g w l = latched-here (closing-latched (g && (q && isTrue v (w .cells) x)) m l)
+  stays-narrowing (suc n) q g w l = latched-onward _ _ (s (g && (q && isTrue v (w .cells) x)) w l) (λ w₁. stays-narrowing n (q && isTrue v (w .cells) x) g w₁ l)
 
   stays-circling : (n : ℕ) → Stays (circling v x m X n)
   unfolding circling
-  stays-circling zero g w l = let e = extends-same (w .trail) in latched-cond l (w .trail) (isTrue v (w .cells) x) (off m (Some l) w) (on w (Some l)) (refl, e) (refl, e)
-  stays-circling (suc n) g w l = latched-cond l (w .trail) (isTrue v (w .cells) x) _ _ (latched-onward l (w .trail) _ _ (s g w l) (λ w₁. stays-circling n g w₁ l)) (refl, extends-same (w .trail))
+  stays-circling zero g w l = latched-cond (isTrue v (w .cells) x) _ _ (record { latch = refl; longer = extends-same (w .trail) }) (latched-here refl)
+  stays-circling (suc n) g w l = latched-cond (isTrue v (w .cells) x) _ _ (latched-onward _ _ (s g w l) (λ w₁. stays-circling n g w₁ l)) (latched-here refl)
 
   stays-looping : (b : Bool) (n : ℕ) → Stays (looping b v x m X n)
   stays-looping true n = stays-narrowing n true
@@ -224,39 +228,36 @@ module _ (v : Values) (covered : ℕ → Bool) where
 -- Under a guard that is yes, and with nothing latched, a walk comes to what the branching run comes to, and goes over
 -- what that goes over: a latch, or without one a break, blames the line at which that breaks, and from then on the
 -- walk may go over more.
-abbrev Blames : ℕ → List Simple → Walk → Type 0
-Blames l a (on w h) = (h ≡ Some l) × Extends a (w .trail)
-Blames l a (off m h w) = ((h ≡ Some l) ⊎ ((h ≡ None) × (m ≡ l))) × Extends a (w .trail)
+abbrev Blames : ℕ → Walk → Type 0
+Blames l (on w h) = h ≡ Some l
+Blames l (off m h w) = (h ≡ Some l) ⊎ ((h ≡ None) × (m ≡ l))
 
 abbrev pub Agree : Out → List Simple → Walk → Type 0
 Agree (went w) a s = s ≡ on (record { cells = w; trail = a }) None
-Agree (broke l w) a s = Blames l a s
+Agree (broke l w) a s = Blames l s × Extends a (memoryOf s .trail)
 
 -- B is what the branching run comes to, and T what it goes over
 abbrev Agrees : (List ℕ → Out) → (List ℕ → List Simple) → Form → Type 0
 Agrees B T X = (w : Memory) → Agree (B (w .cells)) (w .trail ++ T (w .cells)) (X true w None)
 
-blames : (l : ℕ) (a : List Simple) (s : Walk) → Latched l a s → Blames l a s
-blames l a (on w h) e = e
-blames l a (off m h w) e = (inl (e .0), e .1)
+blames : (l : ℕ) (s : Walk) → latchOf s ≡ Some l → Blames l s
+blames l (on w h) e = e
+blames l (off m h w) e = inl e
 
-agree-onward : (b : Out) (a : List Simple) (s : Walk) (C : List ℕ → Out) (T : List ℕ → List Simple) (f : Memory → Option ℕ → Walk) → Agree b a s →
-    ((w : Memory) → Agree (C (w .cells)) (w .trail ++ T (w .cells)) (f w None)) → ((w : Memory) (l : ℕ) → Latched l (w .trail) (f w (Some l))) →
-    Agree (after b C) (a ++ beyond b T) (onward s f)
-agree-onward (went u) a s C T f e k y = rw e (k (record { cells = u; trail = a }))
-agree-onward (broke l u) a (on w h) C T f e k y = rw (append-nil a, e .0) (blames l a (f w (Some l)) (latched-longer l a (w .trail) (f w (Some l)) (e .1) (y w l)))
-agree-onward (broke l u) a (off m h w) C T f e k y = rw (append-nil a) e
-
--- the same, where what is gone over first stands apart
-agree-then : (b : Out) (a c : List Simple) (s : Walk) (C : List ℕ → Out) (T : List ℕ → List Simple) (f : Memory → Option ℕ → Walk) → Agree b (a ++ c) s →
+-- a was gone over before, and c by what comes to b
+agree-onward : (b : Out) (a c : List Simple) (s : Walk) (C : List ℕ → Out) (T : List ℕ → List Simple) (f : Memory → Option ℕ → Walk) → Agree b (a ++ c) s →
     ((w : Memory) → Agree (C (w .cells)) (w .trail ++ T (w .cells)) (f w None)) → ((w : Memory) (l : ℕ) → Latched l (w .trail) (f w (Some l))) →
     Agree (after b C) (a ++ (c ++ beyond b T)) (onward s f)
-agree-then b a c s C T f e k y = rw (sym (append-assoc a c (beyond b T))) (agree-onward b (a ++ c) s C T f e k y)
+agree-onward (went u) a c s C T f e k y = rw (e, sym (append-assoc a c (T u))) (k (record { cells = u; trail = a ++ c }))
+agree-onward (broke l u) a c (on w h) C T f e k y =
+    let n : Latched l (a ++ c) (f w (Some l)) = latched-longer (e .1) (y w l) in
+    rw (append-nil c, e .0) (blames l (f w (Some l)) (n .latch), n .longer)
+agree-onward (broke l u) a c (off m h w) C T f e k y = rw (append-nil c) e
 
 agree-turn : (B C : List ℕ → Out) (T U : List ℕ → List Simple) (X Y : Form) → Agrees B T X → Agrees C U Y → Stays Y →
     Agrees (λ w. after (B w) C) (λ w. T w ++ beyond (B w) U) (inTurn X Y)
 unfolding inTurn
-agree-turn B C T U X Y x y s w = agree-then (B (w .cells)) (w .trail) (T (w .cells)) (X true w None) C U (Y true) (x w) y (s true)
+agree-turn B C T U X Y x y s w = agree-onward (B (w .cells)) (w .trail) (T (w .cells)) (X true w None) C U (Y true) (x w) y (s true)
 
 agree-rest : Agrees went (λ w. []) resting
 unfolding resting
@@ -298,7 +299,7 @@ module _ (v : Values) (x l : ℕ) (B : List ℕ → Out) (T : List ℕ → List 
       go : (b : Bool) → Agrees (passes v x l B n) (passesTrail v x B T n) (narrowing v x l X n true) →
           Agree (elim b [ true ↦ after (B (w .cells)) (passes v x l B n) | false ↦ went (w .cells) ])
           (w .trail ++ elim b [ true ↦ T (w .cells) ++ beyond (B (w .cells)) (passesTrail v x B T n) | false ↦ [] ]) (onward (X b w None) (narrowing v x l X n b true))
-      go true a = agree-then (B (w .cells)) (w .trail) (T (w .cells)) (X true w None) (passes v x l B n) (passesTrail v x B T n) (narrowing v x l X n true true) (p w) a (stays-narrowing v x l X s n true true)
+      go true a = agree-onward (B (w .cells)) (w .trail) (T (w .cells)) (X true w None) (passes v x l B n) (passesTrail v x B T n) (narrowing v x l X n true true) (p w) a (stays-narrowing v x l X s n true true)
       go false a = rw (append-nil (w .trail), i w None) (spent-narrowing v x l X i n w None)
 
   agree-circling : (n : ℕ) → Agrees (passes v x l B n) (passesTrail v x B T n) (circling v x l X n)
@@ -313,7 +314,7 @@ module _ (v : Values) (x l : ℕ) (B : List ℕ → Out) (T : List ℕ → List 
       go : (b : Bool) → Agrees (passes v x l B n) (passesTrail v x B T n) (circling v x l X n) →
           Agree (elim b [ true ↦ after (B (w .cells)) (passes v x l B n) | false ↦ went (w .cells) ])
           (w .trail ++ elim b [ true ↦ T (w .cells) ++ beyond (B (w .cells)) (passesTrail v x B T n) | false ↦ [] ]) (cond b (onward (X true w None) (circling v x l X n true)) (on w None))
-      go true a = agree-then (B (w .cells)) (w .trail) (T (w .cells)) (X true w None) (passes v x l B n) (passesTrail v x B T n) (circling v x l X n true) (p w) a (stays-circling v x l X s n true)
+      go true a = agree-onward (B (w .cells)) (w .trail) (T (w .cells)) (X true w None) (passes v x l B n) (passesTrail v x B T n) (circling v x l X n true) (p w) a (stays-circling v x l X s n true)
       go false a = rw (append-nil (w .trail))
 
   agree-looping : (b : Bool) → (b ≡ true → Idle X) → (n : ℕ) → Agrees (passes v x l B n) (passesTrail v x B T n) (looping b v x l X n)
