@@ -68,7 +68,7 @@ in-order : (o : Out) (c : List Simple) (x : Walk) → Agree o c x → (rest : Li
 in-order (went w) c x a = ([], ap (λ z. memoryOf z .trail) a ∙ sym (append-nil c), λ u q. refl)
 in-order (broke l w) c x a = (a .1 .0, a .1 .1, λ u q. absurd (let z : _≡_ {A = ℕ} 0 1 = cc in omega arith))
 
--- nothing is gone over yet
+-- nothing has been gone over yet
 abbrev begun : List ℕ → Memory
 begun w = record { cells = w; trail = [] }
 
