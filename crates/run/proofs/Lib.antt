@@ -8,3 +8,4 @@ pub mod Following
 pub mod Simulation
 pub mod Tightness
 pub mod Together
+pub mod Whole

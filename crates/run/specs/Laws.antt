@@ -2,7 +2,7 @@
 use mathlib.Core.Path.{_≡_}
 use mathlib.Core.Bool.{Bool, true, false, _||_}
 use mathlib.Core.Logic.{_⊎_}
-use mathlib.Core.List.{List, []}
+use mathlib.Core.List.{List, [], _++_}
 use Prim.Native.Nat.{ℕ, _+_, _*_}
 use lib.ListN.{length, getD}
 use Rattle.std.specs.declared.option.Option.{Option}
@@ -10,9 +10,12 @@ use Rattle.std.specs.declared.option.Option.the-variants.{Some, None}
 use Rattle.sheet.specs.Code.{Code, stop, work, literal, choose, repeat, Keeps}
 use Rattle.marking.specs.Rules.{Follows}
 use Rattle.onepath.specs.Listed.{stepsOf}
+use Rattle.onepath.specs.declared.steps.Step.the-variants.{Work, Literal}
 use Rattle.run.specs.Values.{Values}
 use Rattle.run.specs.Branching.{Out, went, broke, branching}
-use Rattle.run.specs.Machine.{State, isOver, steps, fresh}
+use Rattle.run.specs.Machine.{State, guardAt, act, isOver, steps, fresh}
+use Rattle.run.specs.Trails.{Simple, trail, enabled}
+use Rattle.run.specs.declared.registers.Registers.{Registers}
 
 -- The one path came to what the branching run comes to: to its end, with its cells and nothing latched, or to a
 -- break or an end that blames the line at which the branching run breaks. A latch comes before a break.
@@ -42,6 +45,19 @@ Ending =
     (v : Values) (covered : ℕ → Bool) (cells : ℕ) (code : Code) (w : List ℕ) → Keeps cells 6 code →
     let ts = stepsOf covered 0 0 0 0 code in
     isOver (length ts) (steps v ts (mostSteps code) (fresh w)) ≡ true
+
+-- Order: over a whole run the one path goes over the simple lines that the branching run goes over, in the same
+-- order, and over no others unless the branching run breaks.
+abbrev pub Order : Type 0
+Order =
+    (v : Values) (covered : ℕ → Bool) (cells : ℕ) (code : Code) (w : List ℕ) → Keeps cells 6 code →
+    (rest : List Simple) × (enabled v (stepsOf covered 0 0 0 0 code) (mostSteps code) (fresh w) ≡ trail v code 0 w ++ rest) × ((u : List ℕ) → branching v code 0 w ≡ went u → rest ≡ [])
+
+-- Disabled: the step of a simple line changes no cell where its guard is no.
+abbrev pub Disabled : Type 0
+Disabled =
+    (v : Values) (k i : ℕ) (r : Registers) (h : Option ℕ) (w : List ℕ) → guardAt r k ≡ false →
+    ((t o a b : ℕ) → act v (Work k t o a b) i r h w .cells ≡ w) × ((t n : ℕ) → act v (Literal k t n) i r h w .cells ≡ w)
 
 -- the cells that are not covered are alike
 abbrev pub Alike : (ℕ → Bool) → List ℕ → List ℕ → Type 0

@@ -2,6 +2,7 @@ pub mod Values
 pub mod Branching
 pub mod Machine
 pub mod Moves
+pub mod Trails
 pub mod Laws
 pub mod Refusals
 pub mod Judging

@@ -1,6 +1,6 @@
 // Why the one path is right.
 ghost use Rattle.run.specs.Examples.{Examples};
-ghost use Rattle.run.specs.Laws.{Agreement, Ending, Lockstep};
+ghost use Rattle.run.specs.Laws.{Agreement, Ending, Order, Disabled, Lockstep};
 
 // From any cells the one path comes to an end, and to what the branching run comes to.
 pub fn agreement_stands() -> u8
@@ -12,6 +12,20 @@ pub fn agreement_stands() -> u8
 // No run of the one path takes more steps than the sheet says.
 pub fn ending_stands() -> u8
     ensures { λ _. ⌜ Ending ⌝ }
+{
+    0
+}
+
+// The one path goes over the branching run's work and literal lines, in their order.
+pub fn order_stands() -> u8
+    ensures { λ _. ⌜ Order ⌝ }
+{
+    0
+}
+
+// A disabled step changes no cell.
+pub fn disabled_stands() -> u8
+    ensures { λ _. ⌜ Disabled ⌝ }
 {
     0
 }

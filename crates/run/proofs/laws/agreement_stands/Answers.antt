@@ -1,4 +1,4 @@
-use Rattle.run.proofs.Simulation.{agreement}
+use Rattle.run.proofs.Whole.{agreement}
 use Rattle.run.proofs.laws.agreement_stands.Needs as need
 
 pub returns : need.returns
