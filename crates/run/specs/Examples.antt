@@ -13,7 +13,9 @@ use Rattle.value.specs.Arithmetic.{numbers}
 use Rattle.value.specs.Truth.{nonzero}
 use Rattle.run.specs.Values.{Values}
 use Rattle.run.specs.Branching.{branching}
-use Rattle.run.specs.Machine.{State, steps, taken, fresh}
+use Rattle.run.specs.Laws.{mostSteps}
+use Rattle.run.specs.Machine.{steps, taken, fresh}
+use Rattle.run.specs.Trails.{Simple, didWork, didLiteral, enabled}
 use Rattle.run.specs.Judging.{verdictOf, pathVerdict}
 use Rattle.run.specs.declared.verdicts.Verdict.{Verdict}
 use Rattle.run.specs.declared.verdicts.Verdict.the-variants.{Right, Wrong, Void}
@@ -54,11 +56,12 @@ Comes s w r n =
     (pathVerdict numberKind (s .verdict) end ≡ r) ×
     (taken numberKind (stepsIn s) 20 (fresh w) ≡ n)
 
--- from these cells the run ends with this latch and this break
-abbrev pub EndsWith : Sample → List ℕ → Option ℕ → Option ℕ → Type 0
-EndsWith s w latch break =
+-- From these cells the one path ends at this place with these cells, this latch and this break, and goes over these
+-- simple lines.
+abbrev pub EndsWith : Sample → List ℕ → ℕ → List ℕ → Option ℕ → Option ℕ → List Simple → Type 0
+EndsWith s w place after latch break over =
     let end = steps numberKind (stepsIn s) 20 (fresh w) in
-    (end .track .latch ≡ latch) × (end .track .broken ≡ break)
+    (end .track .place ≡ place) × (end .cells ≡ after) × (end .track .latch ≡ latch) × (end .track .broken ≡ break) × (enabled numberKind (stepsIn s) 20 (fresh w) ≡ over)
 
 abbrev pub Examples : Type 0
 Examples =
@@ -71,7 +74,16 @@ Examples =
     Comes sheetB (1 ∷ 4 ∷ 0 ∷ []) (Void 0) 14 ×
     Comes sheetC (1 ∷ 0 ∷ 0 ∷ []) Wrong 10 ×
     Comes sheetC (1 ∷ 1 ∷ 0 ∷ []) (Void 1) 10 ×
-    Comes sheetD (1 ∷ 0 ∷ []) (Void 0) 8 ×
-    EndsWith sheetB (1 ∷ 4 ∷ 0 ∷ []) (Some 0) None ×
-    EndsWith sheetC (1 ∷ 1 ∷ 0 ∷ []) (Some 1) None ×
-    EndsWith sheetD (1 ∷ 0 ∷ []) None (Some 0)
+    Comes sheetD (1 ∷ 0 ∷ []) (Void 0) 8
+
+-- By these the laws bite: a run whose guards are no (order), two runs that part in covered cells alone, one of them
+-- latched (agreement, lockstep), a bound that breaks in an open loop (agreement), and the most steps reached exactly
+-- (ending).
+abbrev pub Bites : Type 0
+Bites =
+    EndsWith sheetB (1 ∷ 0 ∷ 0 ∷ []) 6 (1 ∷ 0 ∷ 0 ∷ []) None None [] ×
+    EndsWith sheetB (1 ∷ 1 ∷ 0 ∷ []) 6 (1 ∷ 0 ∷ 1 ∷ []) None None (didWork 1 1 1 0 ∷ didWork 2 0 2 0 ∷ []) ×
+    EndsWith sheetC (1 ∷ 1 ∷ 0 ∷ []) 7 (1 ∷ 1 ∷ 5 ∷ []) (Some 1) None (didLiteral 2 5 ∷ didLiteral 2 5 ∷ []) ×
+    EndsWith sheetC (1 ∷ 0 ∷ 0 ∷ []) 7 (1 ∷ 0 ∷ 0 ∷ []) None None [] ×
+    EndsWith sheetD (1 ∷ 0 ∷ []) 1 (1 ∷ 5 ∷ []) None (Some 0) (didLiteral 1 5 ∷ didLiteral 1 5 ∷ []) ×
+    (mostSteps (sheetB .code) ≡ 14) × (mostSteps (sheetC .code) ≡ 10) × (mostSteps (sheetD .code) ≡ 8)

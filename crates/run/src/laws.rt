@@ -1,5 +1,5 @@
 // Why the one path is right.
-ghost use Rattle.run.specs.Examples.{Examples};
+ghost use Rattle.run.specs.Examples.{Examples, Bites};
 ghost use Rattle.run.specs.Laws.{Agreement, Ending, Order, Disabled, Lockstep};
 
 // From any cells the one path comes to an end, and to what the branching run comes to.
@@ -39,7 +39,8 @@ pub fn lockstep_stands() -> u8
 
 // What the four sheets of the examples come to, in both forms.
 pub fn examples_stand() -> u8
-    ensures { λ _. ⌜ Examples ⌝ }
+    ensures table { λ _. ⌜ Examples ⌝ }
+    ensures bites { λ _. ⌜ Bites ⌝ }
 {
     0
 }

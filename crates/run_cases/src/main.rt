@@ -1,6 +1,5 @@
 // Runs each sheet of a table on standard input in both its forms and prints what they come to. A line of the table has
 // a name, the kind of values, the number of cells, each cell's value, and the sheet's bytes in hexadecimal.
-use onepath::OnePath;
 use onepath::Step;
 use onepath::convert;
 use run::Registers;
@@ -60,17 +59,10 @@ fn cells_of<V: Value>(heap: Global, case: &Case) -> Result<Vec<V>, AllocError> {
 }
 
 // What the branching run comes to.
-fn branching<V: Value>(heap: Global, case: &Case) -> Result<String, AllocError> {
+fn branching<V: Value>(heap: Global, case: &Case) -> Result<Result<Verdict, RunFault>, AllocError> {
     let mut lines = vec![in heap; Line::Else { partner: 0 }; 512]?;
     let mut cells = cells_of::<V>(heap, case)?;
-    match judge(case.bytes.as_slice(), &mut lines, &mut cells) {
-        Ok(verdict) => verdict_words(heap, verdict),
-        Err(fault) => {
-            let number = fault.number();
-            let place = fault.place();
-            format!(heap, "refused {number} at {place}")
-        }
-    }
+    Ok(judge(case.bytes.as_slice(), &mut lines, &mut cells))
 }
 
 // What the one path comes to, and after how many steps.
@@ -94,9 +86,18 @@ fn one_path<V: Value>(heap: Global, case: &Case) -> Result<String, AllocError> {
 }
 
 fn both<V: Value>(heap: Global, case: &Case) -> Result<String, AllocError> {
-    let first = branching::<V>(heap, case)?;
-    let second = one_path::<V>(heap, case)?;
-    format!(heap, "branching {first}, one path {second}")
+    match branching::<V>(heap, case)? {
+        Ok(verdict) => {
+            let first = verdict_words(heap, verdict)?;
+            let second = one_path::<V>(heap, case)?;
+            format!(heap, "branching {first}, one path {second}")
+        }
+        Err(fault) => {
+            let number = fault.number();
+            let place = fault.place();
+            format!(heap, "refused {number} at {place}")
+        }
+    }
 }
 
 fn main(rt: LibcRuntime) -> Result<(), AnyError> {
