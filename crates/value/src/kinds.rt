@@ -3,6 +3,7 @@
 ghost use mathlib.Core.Path.{_≡_};
 ghost use mathlib.Core.Bool.{Bool};
 ghost use Prim.Native.Nat.{ℕ, _^_, _<_};
+ghost use Rattle.value.specs.Truth.{nonzero};
 
 pub trait Value: Copy {
     ghost meaning: { Self → ℕ };
@@ -18,6 +19,9 @@ pub trait Value: Copy {
 
     // There are the operations 0 to 7: any other gives the literal 0.
     law beyond: { (op a b : ℕ) → 7 < op → combined op a b ≡ literally 0 };
+
+    // A value is true unless it means 0.
+    law truly: { (n : ℕ) → holds n ≡ nonzero n };
 
     fn literal(n: u32) -> Self
         ensures { λ r. ⌜ meaning r ≡ literally n ⌝ };
