@@ -1,12 +1,13 @@
 // The step machine.
 ghost use mathlib.Core.Path.{_≡_};
-ghost use mathlib.Core.Bool.{_||_};
+ghost use mathlib.Core.Bool.{_||_, true};
 ghost use mathlib.Core.List.{map};
 ghost use Prim.Native.Nat.{_+_};
 ghost use lib.Dec.{leb};
 ghost use Rattle.std.specs.Options.{isSome};
 ghost use Rattle.std.specs.declared.option.Option.the-variants.{None};
 ghost use Rattle.run.specs.Machine.{act as acted, next, steps as stepped, taken, stateOf};
+ghost use Rattle.run.specs.Moves.{isCovered, isOpen};
 ghost use Rattle.run.specs.Values.{kindOf};
 use crate::cells::is_true;
 use crate::cells::state;
@@ -14,6 +15,57 @@ use crate::cells::work;
 use crate::track::Track;
 use onepath::Step;
 use value::Value;
+
+// A step of a covered construct's own.
+fn act_covered<V: Value>(step: Step, after: usize, track: &mut Track, cells: &[V])
+    requires place { ⌜ after ≡ now track .place + 1 ⌝ }
+    requires whole { ⌜ now track .broken ≡ None ⌝ }
+    ensures { λ _. ⌜ (isCovered step ≡ true → stateOf V·Value (now (track .exit)) (now (cells .entry)) ≡ acted (kindOf V·Value) step (now (track .entry) .place) (now (track .entry) .registers) (now (track .entry) .latch) (map (V·Value .meaning) (now (cells .entry)))) ⌝ }
+{
+    track.place = after;
+    match step {
+        Step::Ask { level, cell } => track.registers.ask(level, is_true(cells, cell)),
+        Step::Turn { level } => track.registers.turn(level),
+        Step::Setout { level } => track.registers.setout(level),
+        Step::Narrow { level, cell } => {
+            let q = track.registers.flag(level) && is_true(cells, cell);
+            track.registers.ask(level, q);
+        }
+        Step::Again { level, bound, to } => {
+            let passes = track.registers.count_pass(level);
+            track.place = if passes < bound { to } else { after };
+        }
+        Step::Close { level, cell, line } => track.close(level, is_true(cells, cell), line),
+        _ => {}
+    }
+}
+
+// A step of an open construct's own.
+fn act_open<V: Value>(step: Step, after: usize, track: &mut Track, cells: &[V])
+    requires place { ⌜ after ≡ now track .place + 1 ⌝ }
+    requires whole { ⌜ now track .broken ≡ None ⌝ }
+    ensures { λ _. ⌜ (isOpen step ≡ true → stateOf V·Value (now (track .exit)) (now (cells .entry)) ≡ acted (kindOf V·Value) step (now (track .entry) .place) (now (track .entry) .registers) (now (track .entry) .latch) (map (V·Value .meaning) (now (cells .entry)))) ⌝ }
+{
+    match step {
+        Step::Branch { cell, to } => track.place = if is_true(cells, cell) { after } else { to },
+        Step::Jump { to } => track.place = to,
+        Step::Enter { counter } => {
+            track.registers.set_loop(counter, 0);
+            track.place = after;
+        }
+        Step::Test {
+            counter,
+            cell,
+            bound,
+            to,
+            line,
+        } => {
+            let go_on = is_true(cells, cell);
+            track.test(counter, go_on, bound, after, to, line);
+        }
+        _ => {}
+    }
+}
 
 // Takes the step, which stands at the track's place; `after` is the place after it.
 fn act<V: Value>(step: Step, after: usize, track: &mut Track, cells: &mut [V])
@@ -44,47 +96,10 @@ fn act<V: Value>(step: Step, after: usize, track: &mut Track, cells: &mut [V])
             }
             track.place = after;
         }
-        Step::Ask { level, cell } => {
-            track.registers.ask(level, is_true(cells, cell));
-            track.place = after;
+        Step::Branch { .. } | Step::Jump { .. } | Step::Enter { .. } | Step::Test { .. } => {
+            act_open(step, after, track, cells)
         }
-        Step::Turn { level } => {
-            track.registers.turn(level);
-            track.place = after;
-        }
-        Step::Setout { level } => {
-            track.registers.setout(level);
-            track.place = after;
-        }
-        Step::Narrow { level, cell } => {
-            let q = track.registers.flag(level) && is_true(cells, cell);
-            track.registers.ask(level, q);
-            track.place = after;
-        }
-        Step::Again { level, bound, to } => {
-            let passes = track.registers.count_pass(level);
-            track.place = if passes < bound { to } else { after };
-        }
-        Step::Close { level, cell, line } => {
-            track.close(level, is_true(cells, cell), line);
-            track.place = after;
-        }
-        Step::Branch { cell, to } => track.place = if is_true(cells, cell) { after } else { to },
-        Step::Jump { to } => track.place = to,
-        Step::Enter { counter } => {
-            track.registers.set_loop(counter, 0);
-            track.place = after;
-        }
-        Step::Test {
-            counter,
-            cell,
-            bound,
-            to,
-            line,
-        } => {
-            let go_on = is_true(cells, cell);
-            track.test(counter, go_on, bound, after, to, line);
-        }
+        _ => act_covered(step, after, track, cells),
     }
 }
 
