@@ -1,5 +1,4 @@
--- Which steps are a covered construct's own and which an open one's; a track after the close of a covered loop and
--- after the test of an open one.
+-- Whose each step is; a track after the close of a covered loop and after the test of an open one.
 use mathlib.Core.Bool.{Bool, true, false, cond, _&&_}
 use Prim.Native.Nat.{ℕ, _-_}
 use lib.Dec.{eqb}
@@ -11,33 +10,25 @@ use Rattle.run.specs.Machine.{flagAt, guardAt, loopAt, looped, oneMore, closin
 use Rattle.run.specs.declared.registers.Registers.{Registers}
 use Rattle.run.specs.declared.track.Track.{Track}
 
-abbrev pub isOpen : Step → Bool
-isOpen (Work k t o a b) = false
-isOpen (Literal k t n) = false
-isOpen (Ask k x) = false
-isOpen (Turn k) = false
-isOpen (Setout k) = false
-isOpen (Narrow k x) = false
-isOpen (Again k n j) = false
-isOpen (Close k x l) = false
-isOpen (Branch x j) = true
-isOpen (Jump j) = true
-isOpen (Enter d) = true
-isOpen (Test d x n j l) = true
+-- whose step it is: a simple line's, a covered construct's or an open one's
+pub data Owner : Type 0 where
+  ofLine : Owner
+  ofCovered : Owner
+  ofOpen : Owner
 
-abbrev pub isCovered : Step → Bool
-isCovered (Work k t o a b) = false
-isCovered (Literal k t n) = false
-isCovered (Ask k x) = true
-isCovered (Turn k) = true
-isCovered (Setout k) = true
-isCovered (Narrow k x) = true
-isCovered (Again k n j) = true
-isCovered (Close k x l) = true
-isCovered (Branch x j) = false
-isCovered (Jump j) = false
-isCovered (Enter d) = false
-isCovered (Test d x n j l) = false
+abbrev pub ownerOf : Step → Owner
+ownerOf (Work k t o a b) = ofLine
+ownerOf (Literal k t n) = ofLine
+ownerOf (Ask k x) = ofCovered
+ownerOf (Turn k) = ofCovered
+ownerOf (Setout k) = ofCovered
+ownerOf (Narrow k x) = ofCovered
+ownerOf (Again k n j) = ofCovered
+ownerOf (Close k x l) = ofCovered
+ownerOf (Branch x j) = ofOpen
+ownerOf (Jump j) = ofOpen
+ownerOf (Enter d) = ofOpen
+ownerOf (Test d x n j l) = ofOpen
 
 abbrev pub closed : Track → ℕ → Bool → ℕ → Track
 closed t k b l =

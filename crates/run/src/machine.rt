@@ -1,13 +1,13 @@
 // The step machine.
 ghost use mathlib.Core.Path.{_≡_};
-ghost use mathlib.Core.Bool.{_||_, true};
+ghost use mathlib.Core.Bool.{_||_};
 ghost use mathlib.Core.List.{map};
 ghost use Prim.Native.Nat.{_+_};
 ghost use lib.Dec.{leb};
 ghost use Rattle.std.specs.Options.{isSome};
 ghost use Rattle.std.specs.declared.option.Option.the-variants.{None};
 ghost use Rattle.run.specs.Machine.{act as acted, next, steps as stepped, taken, stateOf};
-ghost use Rattle.run.specs.Moves.{isCovered, isOpen};
+ghost use Rattle.run.specs.Moves.{ownerOf, ofCovered, ofOpen};
 ghost use Rattle.run.specs.Values.{kindOf};
 use crate::cells::is_true;
 use crate::cells::state;
@@ -20,7 +20,7 @@ use value::Value;
 fn act_covered<V: Value>(step: Step, after: usize, track: &mut Track, cells: &[V])
     requires place { ⌜ after ≡ now track .place + 1 ⌝ }
     requires whole { ⌜ now track .broken ≡ None ⌝ }
-    ensures { λ _. ⌜ (isCovered step ≡ true → stateOf V·Value (now (track .exit)) (now (cells .entry)) ≡ acted (kindOf V·Value) step (now (track .entry) .place) (now (track .entry) .registers) (now (track .entry) .latch) (map (V·Value .meaning) (now (cells .entry)))) ⌝ }
+    ensures { λ _. ⌜ (ownerOf step ≡ ofCovered → stateOf V·Value (now (track .exit)) (now (cells .entry)) ≡ acted (kindOf V·Value) step (now (track .entry) .place) (now (track .entry) .registers) (now (track .entry) .latch) (map (V·Value .meaning) (now (cells .entry)))) ⌝ }
 {
     track.place = after;
     match step {
@@ -44,7 +44,7 @@ fn act_covered<V: Value>(step: Step, after: usize, track: &mut Track, cells: &[V
 fn act_open<V: Value>(step: Step, after: usize, track: &mut Track, cells: &[V])
     requires place { ⌜ after ≡ now track .place + 1 ⌝ }
     requires whole { ⌜ now track .broken ≡ None ⌝ }
-    ensures { λ _. ⌜ (isOpen step ≡ true → stateOf V·Value (now (track .exit)) (now (cells .entry)) ≡ acted (kindOf V·Value) step (now (track .entry) .place) (now (track .entry) .registers) (now (track .entry) .latch) (map (V·Value .meaning) (now (cells .entry)))) ⌝ }
+    ensures { λ _. ⌜ (ownerOf step ≡ ofOpen → stateOf V·Value (now (track .exit)) (now (cells .entry)) ≡ acted (kindOf V·Value) step (now (track .entry) .place) (now (track .entry) .registers) (now (track .entry) .latch) (map (V·Value .meaning) (now (cells .entry)))) ⌝ }
 {
     match step {
         Step::Branch { cell, to } => track.place = if is_true(cells, cell) { after } else { to },
