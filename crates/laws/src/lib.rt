@@ -1,4 +1,6 @@
 // Why the one path is right: what ties the two forms of a sheet, and two runs of its one path.
+#![tactic(auto)]
+
 mod laws;
 
 pub use laws::{

@@ -1,4 +1,6 @@
 // How far the marked cells of a sheet reach: a mark for each cell, spread by the lines to whatever they could change.
+#![tactic(auto)]
+
 mod faults;
 mod kinds;
 mod least;

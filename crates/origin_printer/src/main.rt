@@ -1,4 +1,6 @@
 // Prints the origin set of each cell of the sheet on standard input.
+#![tactic(auto)]
+
 use report::origin_report;
 use std::io;
 use std::io::Read;

@@ -1,4 +1,6 @@
 // The phone's check of a sheet, to be called from C.
+#![tactic(auto)]
+
 ghost use Rattle.std.specs.Prelude.{◌≡◌};
 ghost use Rattle.sheet.specs.Checks.{sheet_fault};
 ghost use Rattle.phone.specs.Answers.{answer_of, Sure};

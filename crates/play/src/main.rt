@@ -1,4 +1,6 @@
 // Plays the text on standard input and prints what each call is answered.
+#![tactic(auto)]
+
 use script::respond;
 use std::io::Read;
 

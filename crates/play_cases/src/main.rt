@@ -1,5 +1,7 @@
 // Plays each text of a table on standard input. A line that begins with `----` is a title: it is printed, and the lines
 // up to the next one are a text. What stands before the first title is passed over.
+#![tactic(auto)]
+
 use script::respond;
 use std::io::Read;
 

@@ -1,4 +1,6 @@
 // What is said in a round: the calls, their answers and refusals.
+#![tactic(auto)]
+
 mod answers;
 mod calls;
 mod refusals;

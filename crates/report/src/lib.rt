@@ -1,4 +1,6 @@
 // What is printed of a sheet.
+#![tactic(auto)]
+
 ghost use Rattle.std.specs.Prelude.{◌≡◌, IfOk, string_bytes, codes};
 ghost use Rattle.report.specs.Reports.{Reports};
 ghost use Rattle.report.specs.Texts.{refusal_text, covered_text, steps_text, path_text};

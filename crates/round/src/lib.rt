@@ -1,4 +1,6 @@
 // A round's record, and the six calls.
+#![tactic(auto)]
+
 mod calls;
 mod records;
 mod secrets;

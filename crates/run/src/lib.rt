@@ -1,4 +1,6 @@
 // Running a sheet, in both its forms.
+#![tactic(auto)]
+
 mod branching;
 mod cells;
 mod faults;

@@ -1,5 +1,7 @@
 // Runs each sheet of a table on standard input in both its forms and prints what they come to. A line of the table has
 // a name, the kind of values, the number of cells, each cell's value, and the sheet's bytes in hexadecimal.
+#![tactic(auto)]
+
 use anyhow::Context;
 use onepath::{Step, convert};
 use run::{Registers, RunFault, Track, Verdict, judge, path_verdict, run_steps};

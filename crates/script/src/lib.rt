@@ -1,4 +1,6 @@
 // A text of calls, read and played, and the text that it is answered with.
+#![tactic(auto)]
+
 mod faults;
 mod headings;
 mod playing;

@@ -1,4 +1,6 @@
 // Sessions: a sheet is opened as a round, and lists of calls are played on it.
+#![tactic(auto)]
+
 mod faults;
 mod lists;
 mod opening;

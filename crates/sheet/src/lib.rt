@@ -1,4 +1,6 @@
 // Judge sheets: their lines, the layout of their bytes, and the reader.
+#![tactic(auto)]
+
 mod checking;
 mod faults;
 mod filling;

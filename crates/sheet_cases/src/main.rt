@@ -1,5 +1,7 @@
 // Converts each sheet of a table on standard input and prints what comes of it. A line of the table has a name, the
 // lengths of the line, mark and step tables to lend, and the sheet's bytes in hexadecimal.
+#![tactic(auto)]
+
 use anyhow::Context;
 use onepath::{ConvertFault, Step, convert};
 use sheet::{Layer, Line};

@@ -1,4 +1,6 @@
 // Prints the covered cells and the steps of the sheet on standard input.
+#![tactic(auto)]
+
 use report::sheet_report;
 use std::io;
 use std::io::Read;

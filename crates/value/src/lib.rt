@@ -1,4 +1,6 @@
 // Kinds of values: what a cell can hold, and what the operations make of two values.
+#![tactic(auto)]
+
 mod candidates;
 mod digits;
 mod kinds;

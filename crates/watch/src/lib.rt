@@ -1,4 +1,6 @@
 // Watchers: what is told of the places that a run comes to.
+#![tactic(auto)]
+
 mod allowance;
 mod roll;
 mod tally;

@@ -6,22 +6,22 @@ use Rattle.sheet.proofs.Stacks.{stack_length}
 use Rattle.sheet.proofs.Stepping.{line-said, line-bad, ends_open}
 use Rattle.sheet.proofs.checking.check_lines.Goals as goal
 
-pub returns-in-err-check-line : goal.returns-in-err-check-line
-returns-in-err-check-line c =
-    let p = err_from_is_err_and c.from-residual.result c.from-residual.ensures.1 in
+pub returns-in_err-check_line : goal.returns-in_err-check_line
+returns-in_err-check_line c =
+    let p = err_from_is_err_and c.from_residual.result c.from_residual.ensures.1 in
     rw (p.1, p.2)
-    (sym (line-bad c.args.h.cells c.args.bytes.now c.loop.at (opens c.loop.nest) (c.args.h.lines - c.loop.counter) (c.args.h.lines - (c.loop.counter + 1)) (omega arith) _ c.in-err-check-line.ensures.says) ∙ c.loop.invariant.2)
+    (sym (line-bad c.args.h.cells c.args.bytes.now c.loop.at (opens c.loop.nest) (c.args.h.lines - c.loop.counter) (c.args.h.lines - (c.loop.counter + 1)) (omega arith) _ c.in_err-check_line.ensures.says) ∙ c.loop.invariant.2)
 
 pub loop-preserved : goal.loop-preserved
 loop-preserved c =
-    let e = c.in-ok-check-line.ensures in (
+    let e = c.in_ok-check_line.ensures in (
       e.held,
       omega arith,
       sym (line-said c.args.h.cells c.args.bytes.now c.loop.at (opens c.loop.nest) (c.args.h.lines - c.loop.counter) (c.args.h.lines - (c.loop.counter + 1)) (omega arith) _ e.says) ∙ c.loop.invariant.2,
     )
 
-pub returns-else-is-empty : goal.returns-else-is-empty
-returns-else-is-empty c =
+pub returns-else-is_empty : goal.returns-else-is_empty
+returns-else-is_empty c =
     let deep = stack_length c.loop.nest.open c.loop.nest.depth (omega arith) in
-    let some = eqb-false c.loop.nest.depth 0 (sym c.if-is-empty.ensures) in
+    let some = eqb-false c.loop.nest.depth 0 (sym c.if-is_empty.ensures) in
     sym (ends_open c.args.h.cells c.args.bytes.now c.loop.at (opens c.loop.nest) (c.args.h.lines - c.loop.counter) (omega arith) (omega arith)) ∙ c.loop.invariant.2

@@ -6,130 +6,130 @@ use Rattle.sheet.proofs.filling.+fill_block_fill_if_fill_loop.Goals as goal
 
 -- a line or a construct of the block, and then the lines that are left
 
-pub fill-block-loop-i-preserved-in-1 : goal.fill-block-loop-i-preserved-in-1
-fill-block-loop-i-preserved-in-1 t c =
+pub fill_block-loop-i-preserved-in-1 : goal.fill_block-loop-i-preserved-in-1
+fill_block-loop-i-preserved-in-1 t c =
     let bs = c.args.bytes.now in let base = c.args.base in let n = c.args.count in let i = c.loop-i.i in let b = c.loop-i.invariant.3 in
     let s = stepped-work bs base n i c.loop-i-test.true c.loop-i.table (omega arith) c.in-1.is in
     let w = s.onward b.0 b.1 in
     (omega arith, omega arith, s.long ∙ c.loop-i.invariant.2, (w.rest, w.begins), λ vs r d. c.loop-i.invariant.4 vs r (filled_then bs base n i (i + 1) r c.loop-i.table _ vs b s d))
 
-pub fill-block-loop-i-preserved-in-2 : goal.fill-block-loop-i-preserved-in-2
-fill-block-loop-i-preserved-in-2 t c =
+pub fill_block-loop-i-preserved-in-2 : goal.fill_block-loop-i-preserved-in-2
+fill_block-loop-i-preserved-in-2 t c =
     let bs = c.args.bytes.now in let base = c.args.base in let n = c.args.count in let i = c.loop-i.i in let b = c.loop-i.invariant.3 in
     let s = stepped-literal bs base n i c.loop-i-test.true c.loop-i.table (omega arith) c.number.result (number_bytes bs base n i c.number.result c.number.ensures) c.in-2.is in
     let w = s.onward b.0 b.1 in
     (omega arith, omega arith, s.long ∙ c.loop-i.invariant.2, (w.rest, w.begins), λ vs r d. c.loop-i.invariant.4 vs r (filled_then bs base n i (i + 1) r c.loop-i.table _ vs b s d))
 
-pub fill-block-loop-i-preserved-in-3 : goal.fill-block-loop-i-preserved-in-3
-fill-block-loop-i-preserved-in-3 t c =
+pub fill_block-loop-i-preserved-in-3 : goal.fill_block-loop-i-preserved-in-3
+fill_block-loop-i-preserved-in-3 t c =
     let bs = c.args.bytes.now in let base = c.args.base in let n = c.args.count in let i = c.loop-i.i in let b = c.loop-i.invariant.3 in
-    let s = c.fill-if-i.ensures in
+    let s = c.fill_if-i.ensures in
     let w = s.onward b.0 b.1 in
     let l₁ = s.further in
     let l₂ = w.begins.within in
-    (omega arith, omega arith, s.long ∙ c.loop-i.invariant.2, (w.rest, w.begins), λ vs r d. c.loop-i.invariant.4 vs r (filled_then bs base n i c.fill-if-i.result r c.loop-i.table _ vs b s d))
+    (omega arith, omega arith, s.long ∙ c.loop-i.invariant.2, (w.rest, w.begins), λ vs r d. c.loop-i.invariant.4 vs r (filled_then bs base n i c.fill_if-i.result r c.loop-i.table _ vs b s d))
 
-pub fill-block-loop-i-preserved : goal.fill-block-loop-i-preserved
-fill-block-loop-i-preserved t c =
+pub fill_block-loop-i-preserved : goal.fill_block-loop-i-preserved
+fill_block-loop-i-preserved t c =
     let bs = c.args.bytes.now in let base = c.args.base in let n = c.args.count in let i = c.loop-i.i in let b = c.loop-i.invariant.3 in
-    let s = c.fill-loop-i.ensures in
+    let s = c.fill_loop-i.ensures in
     let w = s.onward b.0 b.1 in
     let l₁ = s.further in
     let l₂ = w.begins.within in
-    (omega arith, omega arith, s.long ∙ c.loop-i.invariant.2, (w.rest, w.begins), λ vs r d. c.loop-i.invariant.4 vs r (filled_then bs base n i c.fill-loop-i.result r c.loop-i.table _ vs b s d))
+    (omega arith, omega arith, s.long ∙ c.loop-i.invariant.2, (w.rest, w.begins), λ vs r d. c.loop-i.invariant.4 vs r (filled_then bs base n i c.fill_loop-i.result r c.loop-i.table _ vs b s d))
 
-pub fill-block-returns-in-default : goal.fill-block-returns-in-default
-fill-block-returns-in-default t c =
+pub fill_block-returns-in_default : goal.fill_block-returns-in_default
+fill_block-returns-in_default t c =
     let bs = c.args.bytes.now in let base = c.args.base in let n = c.args.count in let i = c.loop-i.i in
     c.loop-i.invariant.4 c.loop-i.table i
     (filled_none bs base n i c.loop-i.table (λ d b. has-none bs base n i c.loop-i-test.true d b (λ e. omega arith) (λ e. omega arith) (λ e. omega arith) (λ e. omega arith)))
 
-pub fill-block-returns : goal.fill-block-returns
-fill-block-returns t c =
+pub fill_block-returns : goal.fill_block-returns
+fill_block-returns t c =
     c.loop-i.invariant.4 c.loop-i.table c.loop-i.i
     (filled_none c.args.bytes.now c.args.base c.args.count c.loop-i.i c.loop-i.table (at_end c.args.bytes.now c.args.base c.args.count c.loop-i.i (omega arith)))
 
 -- an if
 
-pub fill-if-fill-block-middle-requires : goal.fill-if-fill-block-middle-requires
-fill-if-fill-block-middle-requires t c =
+pub fill_if-fill_block-middle-requires : goal.fill_if-fill_block-middle-requires
+fill_if-fill_block-middle-requires t c =
     let v = has-if c.args.bytes.now c.args.base c.args.count c.args.from c.requires.ordered c.requires.code.0 c.requires.code.1 c.requires.kind in
     (omega (arith, c.decreases), ((v.first, v.begins-first), (omega arith, (c.requires.room, c.requires.whole))))
 
-pub fill-if-overflow-add-middle : goal.fill-if-overflow-add-middle
-fill-if-overflow-add-middle t c =
-    let m = if-middle c.args.bytes.now c.args.base c.args.count c.args.from c.requires.ordered c.requires.code.0 c.requires.code.1 c.args.table.now c.fill-block-middle.new.table c.fill-block-middle.result c.fill-block-middle.ensures c.requires.kind in
-    let l : c.fill-block-middle.result < length c.args.table.now = omega (arith, m.within) in
+pub fill_if-overflow_add-middle : goal.fill_if-overflow_add-middle
+fill_if-overflow_add-middle t c =
+    let m = if-middle c.args.bytes.now c.args.base c.args.count c.args.from c.requires.ordered c.requires.code.0 c.requires.code.1 c.args.table.now c.fill_block-middle.new.table c.fill_block-middle.result c.fill_block-middle.ensures c.requires.kind in
+    let l : c.fill_block-middle.result < length c.args.table.now = omega (arith, m.within) in
     search rules
 
-pub fill-if-fill-block-end-requires : goal.fill-if-fill-block-end-requires
-fill-if-fill-block-end-requires t c =
-    let m = if-middle c.args.bytes.now c.args.base c.args.count c.args.from c.requires.ordered c.requires.code.0 c.requires.code.1 c.args.table.now c.fill-block-middle.new.table c.fill-block-middle.result c.fill-block-middle.ensures c.requires.kind in
+pub fill_if-fill_block-end-requires : goal.fill_if-fill_block-end-requires
+fill_if-fill_block-end-requires t c =
+    let m = if-middle c.args.bytes.now c.args.base c.args.count c.args.from c.requires.ordered c.requires.code.0 c.requires.code.1 c.args.table.now c.fill_block-middle.new.table c.fill_block-middle.result c.fill_block-middle.ensures c.requires.kind in
     let l₁ = m.after in
     let l₂ = m.within in
-    (omega (arith, c.decreases), (m.code, (omega arith, (omega (arith, c.fill-block-middle.ensures.long), c.requires.whole))))
+    (omega (arith, c.decreases), (m.code, (omega arith, (omega (arith, c.fill_block-middle.ensures.long), c.requires.whole))))
 
-pub fill-if-offset-bounds-table-middle : goal.fill-if-offset-bounds-table-middle
-fill-if-offset-bounds-table-middle t c =
-    let m = if-middle c.args.bytes.now c.args.base c.args.count c.args.from c.requires.ordered c.requires.code.0 c.requires.code.1 c.args.table.now c.fill-block-middle.new.table c.fill-block-middle.result c.fill-block-middle.ensures c.requires.kind in
-    let l : c.fill-block-middle.result < length c.args.table.now = omega (arith, m.within) in
+pub fill_if-offset_bounds-table-middle : goal.fill_if-offset_bounds-table-middle
+fill_if-offset_bounds-table-middle t c =
+    let m = if-middle c.args.bytes.now c.args.base c.args.count c.args.from c.requires.ordered c.requires.code.0 c.requires.code.1 c.args.table.now c.fill_block-middle.new.table c.fill_block-middle.result c.fill_block-middle.ensures c.requires.kind in
+    let l : c.fill_block-middle.result < length c.args.table.now = omega (arith, m.within) in
     search rules
 
-pub fill-if-bounds-table-middle : goal.fill-if-bounds-table-middle
-fill-if-bounds-table-middle t c =
-    let m = if-middle c.args.bytes.now c.args.base c.args.count c.args.from c.requires.ordered c.requires.code.0 c.requires.code.1 c.args.table.now c.fill-block-middle.new.table c.fill-block-middle.result c.fill-block-middle.ensures c.requires.kind in
-    simp length-set (omega (arith, m.within, c.fill-block-middle.ensures.long, c.fill-block-end.ensures.long))
+pub fill_if-bounds-table-middle : goal.fill_if-bounds-table-middle
+fill_if-bounds-table-middle t c =
+    let m = if-middle c.args.bytes.now c.args.base c.args.count c.args.from c.requires.ordered c.requires.code.0 c.requires.code.1 c.args.table.now c.fill_block-middle.new.table c.fill_block-middle.result c.fill_block-middle.ensures c.requires.kind in
+    simp length-set (omega (arith, m.within, c.fill_block-middle.ensures.long, c.fill_block-end.ensures.long))
 
-pub fill-if-offset-bounds-table-end : goal.fill-if-offset-bounds-table-end
-fill-if-offset-bounds-table-end t c =
-    let z = if-end c.args.bytes.now c.args.base c.args.count c.args.from c.requires.ordered c.requires.code.0 c.requires.code.1 c.args.table.now c.fill-block-middle.new.table c.fill-block-middle.result c.fill-block-middle.ensures c.fill-block-end.new.table c.fill-block-end.result c.fill-block-end.ensures c.requires.kind in
-    let l : c.fill-block-end.result < length c.args.table.now = omega (arith, z.1) in
+pub fill_if-offset_bounds-table-end : goal.fill_if-offset_bounds-table-end
+fill_if-offset_bounds-table-end t c =
+    let z = if-end c.args.bytes.now c.args.base c.args.count c.args.from c.requires.ordered c.requires.code.0 c.requires.code.1 c.args.table.now c.fill_block-middle.new.table c.fill_block-middle.result c.fill_block-middle.ensures c.fill_block-end.new.table c.fill_block-end.result c.fill_block-end.ensures c.requires.kind in
+    let l : c.fill_block-end.result < length c.args.table.now = omega (arith, z.1) in
     search rules
 
-pub fill-if-bounds-table-end : goal.fill-if-bounds-table-end
-fill-if-bounds-table-end t c =
-    let z = if-end c.args.bytes.now c.args.base c.args.count c.args.from c.requires.ordered c.requires.code.0 c.requires.code.1 c.args.table.now c.fill-block-middle.new.table c.fill-block-middle.result c.fill-block-middle.ensures c.fill-block-end.new.table c.fill-block-end.result c.fill-block-end.ensures c.requires.kind in
-    simp length-set (omega (arith, z.1, c.fill-block-middle.ensures.long, c.fill-block-end.ensures.long))
+pub fill_if-bounds-table-end : goal.fill_if-bounds-table-end
+fill_if-bounds-table-end t c =
+    let z = if-end c.args.bytes.now c.args.base c.args.count c.args.from c.requires.ordered c.requires.code.0 c.requires.code.1 c.args.table.now c.fill_block-middle.new.table c.fill_block-middle.result c.fill_block-middle.ensures c.fill_block-end.new.table c.fill_block-end.result c.fill_block-end.ensures c.requires.kind in
+    simp length-set (omega (arith, z.1, c.fill_block-middle.ensures.long, c.fill_block-end.ensures.long))
 
-pub fill-if-overflow-add-result : goal.fill-if-overflow-add-result
-fill-if-overflow-add-result t c =
-    let z = if-end c.args.bytes.now c.args.base c.args.count c.args.from c.requires.ordered c.requires.code.0 c.requires.code.1 c.args.table.now c.fill-block-middle.new.table c.fill-block-middle.result c.fill-block-middle.ensures c.fill-block-end.new.table c.fill-block-end.result c.fill-block-end.ensures c.requires.kind in
-    let l : c.fill-block-end.result < length c.args.table.now = omega (arith, z.1) in
+pub fill_if-overflow_add-result : goal.fill_if-overflow_add-result
+fill_if-overflow_add-result t c =
+    let z = if-end c.args.bytes.now c.args.base c.args.count c.args.from c.requires.ordered c.requires.code.0 c.requires.code.1 c.args.table.now c.fill_block-middle.new.table c.fill_block-middle.result c.fill_block-middle.ensures c.fill_block-end.new.table c.fill_block-end.result c.fill_block-end.ensures c.requires.kind in
+    let l : c.fill_block-end.result < length c.args.table.now = omega (arith, z.1) in
     search rules
 
-pub fill-if-returns : goal.fill-if-returns
-fill-if-returns t c =
-    let m = if-middle c.args.bytes.now c.args.base c.args.count c.args.from c.requires.ordered c.requires.code.0 c.requires.code.1 c.args.table.now c.fill-block-middle.new.table c.fill-block-middle.result c.fill-block-middle.ensures c.requires.kind in
-    let z = if-end c.args.bytes.now c.args.base c.args.count c.args.from c.requires.ordered c.requires.code.0 c.requires.code.1 c.args.table.now c.fill-block-middle.new.table c.fill-block-middle.result c.fill-block-middle.ensures c.fill-block-end.new.table c.fill-block-end.result c.fill-block-end.ensures c.requires.kind in
-    stepped-if c.args.bytes.now c.args.base c.args.count c.args.from c.requires.ordered c.args.table.now c.fill-block-middle.new.table c.fill-block-middle.result m.after c.fill-block-middle.ensures
-    c.fill-block-end.new.table c.fill-block-end.result z.0 (omega (arith, z.1)) c.fill-block-end.ensures c.requires.kind
+pub fill_if-returns : goal.fill_if-returns
+fill_if-returns t c =
+    let m = if-middle c.args.bytes.now c.args.base c.args.count c.args.from c.requires.ordered c.requires.code.0 c.requires.code.1 c.args.table.now c.fill_block-middle.new.table c.fill_block-middle.result c.fill_block-middle.ensures c.requires.kind in
+    let z = if-end c.args.bytes.now c.args.base c.args.count c.args.from c.requires.ordered c.requires.code.0 c.requires.code.1 c.args.table.now c.fill_block-middle.new.table c.fill_block-middle.result c.fill_block-middle.ensures c.fill_block-end.new.table c.fill_block-end.result c.fill_block-end.ensures c.requires.kind in
+    stepped-if c.args.bytes.now c.args.base c.args.count c.args.from c.requires.ordered c.args.table.now c.fill_block-middle.new.table c.fill_block-middle.result m.after c.fill_block-middle.ensures
+    c.fill_block-end.new.table c.fill_block-end.result z.0 (omega (arith, z.1)) c.fill_block-end.ensures c.requires.kind
 
 -- a loop
 
-pub fill-loop-fill-block-end-requires : goal.fill-loop-fill-block-end-requires
-fill-loop-fill-block-end-requires t c =
+pub fill_loop-fill_block-end-requires : goal.fill_loop-fill_block-end-requires
+fill_loop-fill_block-end-requires t c =
     let v = has-loop c.args.bytes.now c.args.base c.args.count c.args.from c.requires.ordered c.requires.code.0 c.requires.code.1 c.requires.kind in
     (omega (arith, c.decreases), ((v.first, v.begins-first), (omega arith, (c.requires.room, c.requires.whole))))
 
-pub fill-loop-offset-bounds-table-end : goal.fill-loop-offset-bounds-table-end
-fill-loop-offset-bounds-table-end t c =
-    let m = loop-end c.args.bytes.now c.args.base c.args.count c.args.from c.requires.ordered c.requires.code.0 c.requires.code.1 c.args.table.now c.fill-block-end.new.table c.fill-block-end.result c.fill-block-end.ensures c.requires.kind in
-    let l : c.fill-block-end.result < length c.args.table.now = omega (arith, m.within) in
+pub fill_loop-offset_bounds-table-end : goal.fill_loop-offset_bounds-table-end
+fill_loop-offset_bounds-table-end t c =
+    let m = loop-end c.args.bytes.now c.args.base c.args.count c.args.from c.requires.ordered c.requires.code.0 c.requires.code.1 c.args.table.now c.fill_block-end.new.table c.fill_block-end.result c.fill_block-end.ensures c.requires.kind in
+    let l : c.fill_block-end.result < length c.args.table.now = omega (arith, m.within) in
     search rules
 
-pub fill-loop-bounds-table-end : goal.fill-loop-bounds-table-end
-fill-loop-bounds-table-end t c =
-    let m = loop-end c.args.bytes.now c.args.base c.args.count c.args.from c.requires.ordered c.requires.code.0 c.requires.code.1 c.args.table.now c.fill-block-end.new.table c.fill-block-end.result c.fill-block-end.ensures c.requires.kind in
-    simp length-set (omega (arith, m.within, c.fill-block-end.ensures.long))
+pub fill_loop-bounds-table-end : goal.fill_loop-bounds-table-end
+fill_loop-bounds-table-end t c =
+    let m = loop-end c.args.bytes.now c.args.base c.args.count c.args.from c.requires.ordered c.requires.code.0 c.requires.code.1 c.args.table.now c.fill_block-end.new.table c.fill_block-end.result c.fill_block-end.ensures c.requires.kind in
+    simp length-set (omega (arith, m.within, c.fill_block-end.ensures.long))
 
-pub fill-loop-overflow-add-result : goal.fill-loop-overflow-add-result
-fill-loop-overflow-add-result t c =
-    let m = loop-end c.args.bytes.now c.args.base c.args.count c.args.from c.requires.ordered c.requires.code.0 c.requires.code.1 c.args.table.now c.fill-block-end.new.table c.fill-block-end.result c.fill-block-end.ensures c.requires.kind in
-    let l : c.fill-block-end.result < length c.args.table.now = omega (arith, m.within) in
+pub fill_loop-overflow_add-result : goal.fill_loop-overflow_add-result
+fill_loop-overflow_add-result t c =
+    let m = loop-end c.args.bytes.now c.args.base c.args.count c.args.from c.requires.ordered c.requires.code.0 c.requires.code.1 c.args.table.now c.fill_block-end.new.table c.fill_block-end.result c.fill_block-end.ensures c.requires.kind in
+    let l : c.fill_block-end.result < length c.args.table.now = omega (arith, m.within) in
     search rules
 
-pub fill-loop-returns : goal.fill-loop-returns
-fill-loop-returns t c =
-    let m = loop-end c.args.bytes.now c.args.base c.args.count c.args.from c.requires.ordered c.requires.code.0 c.requires.code.1 c.args.table.now c.fill-block-end.new.table c.fill-block-end.result c.fill-block-end.ensures c.requires.kind in
-    stepped-loop c.args.bytes.now c.args.base c.args.count c.args.from c.requires.ordered c.args.table.now c.fill-block-end.new.table c.fill-block-end.result m.after c.fill-block-end.ensures
+pub fill_loop-returns : goal.fill_loop-returns
+fill_loop-returns t c =
+    let m = loop-end c.args.bytes.now c.args.base c.args.count c.args.from c.requires.ordered c.requires.code.0 c.requires.code.1 c.args.table.now c.fill_block-end.new.table c.fill_block-end.result c.fill_block-end.ensures c.requires.kind in
+    stepped-loop c.args.bytes.now c.args.base c.args.count c.args.from c.requires.ordered c.args.table.now c.fill_block-end.new.table c.fill_block-end.result m.after c.fill_block-end.ensures
     (omega (arith, m.within)) c.requires.kind

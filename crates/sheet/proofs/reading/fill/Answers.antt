@@ -2,8 +2,8 @@ use Rattle.std.proofs.Common.{◌≡◌, ◌+◌, length, sym, refl, ap, ◌∙�
 use Rattle.sheet.proofs.Verdicts.{laid_begins, laid_long, laid_lines, laid_marked, table_filled}
 use Rattle.sheet.proofs.reading.fill.Goals as goal
 
-pub fill-block-requires : goal.fill-block-requires
-fill-block-requires c =
+pub fill_block-requires : goal.fill_block-requires
+fill_block-requires c =
     let w = c.requires in
     let s = c.args.sheet in
     let marks : length s.marks.now ≡ length w.0.marks = ap length w.2.marks in
@@ -25,5 +25,5 @@ returns c p laid =
     let l' = laid_lines bs p laid in
     let lines = w.2.lines in
     let room = w.3 in
-    table_filled bs base s.lines c.fill-block.result p c.args.table.now c.fill-block.new.table (omega arith) (omega arith)
-    (laid_begins bs p laid base s.lines (omega arith) (omega arith)) c.fill-block.ensures
+    table_filled bs base s.lines c.fill_block.result p c.args.table.now c.fill_block.new.table (omega arith) (omega arith)
+    (laid_begins bs p laid base s.lines (omega arith) (omega arith)) c.fill_block.ensures
