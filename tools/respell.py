@@ -9,13 +9,15 @@ import glob
 import re
 import sys
 
-DEFINED = re.compile(r'^(?: {2})?(?:(?:abbrev|unfoldable|pub|data|record|ruleset) )*([^\s:(){}⟨⟩,]+)(?: \{[^}]*\}| \([^)]*\))* :(?: |$)(.*)')
+DEFINED = re.compile(r'^(?: {2}){0,2}(?:(?:abbrev|unfoldable|pub|data|record|ruleset) )*([^\s:(){}⟨⟩,]+)(?: \{[^}]*\}| \([^)]*\))* :(?: |$)(.*)')
 # where the plain spelling would fall together with another name
 SPECIAL = {
     'in-play': 'in_play_lem',
     'last-card': 'last_card_lem',
     'line-says': 'line_says_lem',
     'oneMore': 'counted_on',
+    'if-middle': 'if_middle_lem',
+    'loop-end': 'loop_end_lem',
     'map-getD': 'map_get_or',
 }
 WORD = r"A-Za-z0-9_'◌"
@@ -35,13 +37,15 @@ def wanted(name, kind):
 def main():
     files = [f for f in glob.glob('crates/**/*', recursive=True) if f.endswith(('.antt', '.rt', '.edit')) and '/out/' not in f]
     proofs = [f for f in files if f.endswith('.antt')]
-    every, names = collections.defaultdict(set), {}
+    every, names, own_fields = collections.defaultdict(set), {}, set()
     for f in proofs:
         for line in open(f, encoding='utf-8'):
             m = DEFINED.match(line)
             if not m or line.lstrip().startswith('--'):
                 continue
             every[m.group(1)].add(f)
+            if line.startswith('  pub '):
+                own_fields.add(m.group(1))
             if wanted(m.group(1), m.group(2)):
                 names[m.group(1)] = SPECIAL.get(m.group(1), snake(m.group(1)))
     # other names of words, as in 'use M.{a as b}'
@@ -63,13 +67,16 @@ def main():
     camel = {o: n for o, n in names.items() if '-' not in o}
     dashed = {o: n for o, n in names.items() if '-' in o}
     find_camel = re.compile(r"(?<![%s-])(%s)(?![%s-])" % (WORD, '|'.join(map(re.escape, sorted(camel, key=len, reverse=True))) or '(?!)', WORD))
-    # a dashed name behind a dot is a step of the code, unless it ends a path
+    # in an answer a dashed name behind a dot is a step of the code, unless it is a field of the repository's own
+    fields = {o for o in dashed if o in own_fields}
     find_dashed = re.compile(r"(?<![%s.-])(%s)(?![%s-])" % (WORD, '|'.join(map(re.escape, sorted(dashed, key=len, reverse=True))) or '(?!)', WORD))
+    find_field = re.compile(r"(?<=\.)(%s)(?![%s-])" % ('|'.join(map(re.escape, sorted(dashed, key=len, reverse=True))) or '(?!)', WORD))
     for f in files:
         text = open(f, encoding='utf-8').read()
         new = find_camel.sub(lambda m: camel[m.group(1)], text)
-        if f.endswith('.antt'):
-            new = find_dashed.sub(lambda m: dashed[m.group(1)], new)
+        answers = re.search(r'/proofs/.*/', f)
+        new = find_dashed.sub(lambda m: dashed[m.group(1)], new)
+        new = find_field.sub(lambda m: dashed[m.group(1)] if not answers or m.group(1) in fields else m.group(0), new)
         if new != text and '--dry' not in sys.argv:
             open(f, 'w', encoding='utf-8').write(new)
     for f in glob.glob('docs/*.md') + ['README.md']:

@@ -39,8 +39,8 @@ module _ {M : Type 0} {join : M → M → M} {none : M} {rank : M → ℕ} {heig
     abbrev Pass : ℕ → ℕ → List M → List M → Bool → Type 0
     Pass i j ts us r = Passed join none rank xs i j w ts us r
 
-    pub pass-none : (i j : ℕ) (ts : List M) → i ≡ j → Pass i j ts ts false
-    pass-none i j ts e =
+    pub pass_none : (i j : ℕ) (ts : List M) → i ≡ j → Pass i j ts ts false
+    pass_none i j ts e =
         record {
           moved = moved_not l ts;
           meets = λ _ c h. subst (FollowsUnder join (marking none ts) w) (sym (spans_none xs i j c e h)) tt;
@@ -48,9 +48,9 @@ module _ {M : Type 0} {join : M → M → M} {none : M} {rank : M → ℕ} {heig
         }
 
     module _ (i j : ℕ) (more : i ≡ j → ⊥) (ts : List M) where
-      pub pass-work : (us vs : List M) (t o a b : ℕ) (r q : Bool) → line_at xs i ≡ Work t o a b →
+      pub pass_work : (us vs : List M) (t o a b : ℕ) (r q : Bool) → line_at xs i ≡ Work t o a b →
           Raised join none ts us t (join (join (marking none ts a) (marking none ts b)) w) r → Pass (i + 1) j us vs q → Pass i j ts vs (r || q)
-      pass-work us vs t o a b r q e d n =
+      pass_work us vs t o a b r q e d n =
           let reads = join (marking none ts a) (marking none ts b) in
           let mv = raise_moved ts us t (join reads w) r d in
           record {
@@ -71,9 +71,9 @@ module _ {M : Type 0} {join : M → M → M} {none : M} {rank : M → ℕ} {heig
                 n.below k.rest k.spans m f'.2 (raise_below ts us t (join reads w) r d m up low);
           }
 
-      pub pass-literal : (us vs : List M) (t k : ℕ) (r q : Bool) → line_at xs i ≡ Literal t k →
+      pub pass_literal : (us vs : List M) (t k : ℕ) (r q : Bool) → line_at xs i ≡ Literal t k →
           Raised join none ts us t w r → Pass (i + 1) j us vs q → Pass i j ts vs (r || q)
-      pass-literal us vs t k r q e d n =
+      pass_literal us vs t k r q e d n =
           let mv = raise_moved ts us t w r d in
           record {
             moved = moved_then l ts us vs r q mv n.moved;
@@ -95,27 +95,27 @@ module _ {M : Type 0} {join : M → M → M} {none : M} {rank : M → ℕ} {heig
       under : (m : ℕ → M) → Below join none ts m → (x : ℕ) (p : Code) → FollowsUnder join m (join w (m x)) p → FollowsUnder join m (In x) p
       under m low x p f = follows_less l m (join w (m x)) (In x) (above_joins l w w (m x) _ (l.idem w) (low x)) p f
 
-      pub pass-loop : (us vs : List M) (x k z : ℕ) (r q : Bool) → line_at xs i ≡ Loop x k z →
+      pub pass_loop : (us vs : List M) (x k z : ℕ) (r q : Bool) → line_at xs i ≡ Loop x k z →
           Passed join none rank xs (i + 1) z (In x) ts us r → Pass (z + 1) j us vs q → Pass i j ts vs (r || q)
-      pass-loop us vs x k z r q e d n =
+      pass_loop us vs x k z r q e d n =
           record {
             moved = moved_then l ts us vs r q d.moved n.moved;
             meets = λ s c h.
                 let v = at_loop xs i j more x k z e c h in
                 let s' = or_parts r q s in
                 subst (FollowsUnder join (marking none ts) w) (sym v.is) (
-                  d.meets s'.0 v.first v.spans-first,
-                  subst (λ y. FollowsUnder join (marking none y) w v.rest) (d.moved.still s'.0) (n.meets s'.1 v.rest v.spans-rest),
+                  d.meets s'.0 v.first v.spans_first,
+                  subst (λ y. FollowsUnder join (marking none y) w v.rest) (d.moved.still s'.0) (n.meets s'.1 v.rest v.spans_rest),
                 );
             below = λ c h m f low.
                 let v = at_loop xs i j more x k z e c h in
                 let f' = subst (FollowsUnder join m w) v.is f in
-                n.below v.rest v.spans-rest m f'.1 (d.below v.first v.spans-first m (under m low x v.first f'.0) low);
+                n.below v.rest v.spans_rest m f'.1 (d.below v.first v.spans_first m (under m low x v.first f'.0) low);
           }
 
-      pub pass-if : (us us' vs : List M) (x k z : ℕ) (r r' q : Bool) → line_at xs i ≡ If x k → z ≡ end_of (line_at xs k) →
+      pub pass_if : (us us' vs : List M) (x k z : ℕ) (r r' q : Bool) → line_at xs i ≡ If x k → z ≡ end_of (line_at xs k) →
           Passed join none rank xs (i + 1) k (In x) ts us r → Passed join none rank xs (k + 1) z (In x) us us' r' → Pass (z + 1) j us' vs q → Pass i j ts vs (r || (r' || q))
-      pass-if us us' vs x k z r r' q e ez d d' n =
+      pass_if us us' vs x k z r r' q e ez d d' n =
           record {
             moved = moved_then l ts us vs r (r' || q) d.moved (moved_then l us us' vs r' q d'.moved n.moved);
             meets = λ s c h.
@@ -125,17 +125,17 @@ module _ {M : Type 0} {join : M → M → M} {none : M} {rank : M → ℕ} {heig
                 let s₂ = or_parts r' q s₁.1 in
                 let same = d.moved.still s₁.0 in
                 subst (FollowsUnder join (marking none ts) w) (sym v.is) (
-                  d.meets s₁.0 v.first v.spans-first,
+                  d.meets s₁.0 v.first v.spans_first,
                   subst (λ y. FollowsUnder join (marking none y) (In x) v.second) same
-                      (d'.meets s₂.0 v.second (subst (λ y. Spans xs (k + 1) y v.second) zz v.spans-second)),
+                      (d'.meets s₂.0 v.second (subst (λ y. Spans xs (k + 1) y v.second) zz v.spans_second)),
                   subst (λ y. FollowsUnder join (marking none y) w v.rest) (d'.moved.still s₂.0 ∙ same)
-                      (n.meets s₂.1 v.rest (subst (λ y. Spans xs (y + 1) j v.rest) zz v.spans-rest)),
+                      (n.meets s₂.1 v.rest (subst (λ y. Spans xs (y + 1) j v.rest) zz v.spans_rest)),
                 );
             below = λ c h m f low.
                 let v = at_if xs i j more x k e c h in
                 let zz : v.z ≡ z = sym (ez ∙ ap end_of v.mid) in
                 let f' = subst (FollowsUnder join m w) v.is f in
-                let low₁ = d.below v.first v.spans-first m (under m low x v.first f'.0) low in
-                let low₂ = d'.below v.second (subst (λ y. Spans xs (k + 1) y v.second) zz v.spans-second) m (under m low x v.second f'.1) low₁ in
-                n.below v.rest (subst (λ y. Spans xs (y + 1) j v.rest) zz v.spans-rest) m f'.2 low₂;
+                let low₁ = d.below v.first v.spans_first m (under m low x v.first f'.0) low in
+                let low₂ = d'.below v.second (subst (λ y. Spans xs (k + 1) y v.second) zz v.spans_second) m (under m low x v.second f'.1) low₁ in
+                n.below v.rest (subst (λ y. Spans xs (y + 1) j v.rest) zz v.spans_rest) m f'.2 low₂;
           }

@@ -53,19 +53,19 @@ module _ (xs : List Line) (n i j : ℕ) (more : i ≡ j → ⊥) (h : Reads xs n
       let zz : v.z ≡ z = sym (ez ∙ ap end_of v.mid) in
       record {
         cell = g.0;
-        first = (v.first, h.1 - 1, v.spans-first, g.2);
-        second = (v.second, h.1 - 1, subst (λ y. Spans xs (k + 1) y v.second) zz v.spans-second, g.3);
-        rest = (v.rest, h.1, subst (λ y. Spans xs (y + 1) j v.rest) zz v.spans-rest, g.4);
-        le_first = v.le-first;
-        le_second = subst (λ y. k + 1 ≤ y) zz v.le-second;
-        le_rest = subst (λ y. y + 1 ≤ j) zz v.le-rest;
+        first = (v.first, h.1 - 1, v.spans_first, g.2);
+        second = (v.second, h.1 - 1, subst (λ y. Spans xs (k + 1) y v.second) zz v.spans_second, g.3);
+        rest = (v.rest, h.1, subst (λ y. Spans xs (y + 1) j v.rest) zz v.spans_rest, g.4);
+        le_first = v.le_first;
+        le_second = subst (λ y. k + 1 ≤ y) zz v.le_second;
+        le_rest = subst (λ y. y + 1 ≤ j) zz v.le_rest;
       }
 
   pub reads_loop : (x k z : ℕ) → line_at xs i ≡ Loop x k z → ReadsLoop xs n i j x z
   reads_loop x k z e =
       let v = at_loop xs i j more x k z e h.0 h.2 in
       let g = subst (Keeps n h.1) v.is h.3 in
-      record { cell = g.0; first = (v.first, h.1 - 1, v.spans-first, g.4); rest = (v.rest, h.1, v.spans-rest, g.5); le_first = v.le-first; le_rest = v.le-rest }
+      record { cell = g.0; first = (v.first, h.1 - 1, v.spans_first, g.4); rest = (v.rest, h.1, v.spans_rest, g.5); le_first = v.le_first; le_rest = v.le_rest }
 
   pub no_else : (z : ℕ) → line_at xs i ≡ Else z → ⊥
   no_else z e = not_else xs i j more z e h.0 h.2

@@ -25,7 +25,7 @@ fn end_of(line: Line) -> usize
 
 fn mark_of<M: Mark>(marks: &[M], cell: u8) -> M
     requires { cell < length marks.now }
-    ensures { result ≡ marking unmarked marks.now cell }
+    ensures { result ≡ marking M.unmarked marks.now cell }
 {
     marks[cell as usize]
 }
@@ -34,7 +34,7 @@ fn mark_of<M: Mark>(marks: &[M], cell: u8) -> M
 fn given_mark<M: Mark>(marks: &[M], a: u8, b: u8, around: M) -> M
     requires left { a < length marks.now }
     requires right { b < length marks.now }
-    ensures { result ≡ joined (joined (marking unmarked marks.now a) (marking unmarked marks.now b)) around }
+    ensures { result ≡ M.joined (M.joined (marking M.unmarked marks.now a) (marking M.unmarked marks.now b)) around }
 {
     mark_of(marks, a).join(mark_of(marks, b)).join(around)
 }
@@ -42,7 +42,7 @@ fn given_mark<M: Mark>(marks: &[M], a: u8, b: u8, around: M) -> M
 // The joined mark of the conditions around the blocks of a construct: one more than around the construct itself.
 fn around_blocks<M: Mark>(marks: &[M], cell: u8, around: M) -> M
     requires { cell < length marks.now }
-    ensures { result ≡ joined around (marking unmarked marks.now cell) }
+    ensures { result ≡ M.joined around (marking M.unmarked marks.now cell) }
 {
     around.join(mark_of(marks, cell))
 }
@@ -50,9 +50,9 @@ fn around_blocks<M: Mark>(marks: &[M], cell: u8, around: M) -> M
 // Joins `mark` to the mark of a cell, and says whether that raised it.
 fn raise<M: Mark>(marks: &mut [M], cell: u8, mark: M) -> bool
     requires { cell < length marks.old }
-    ensures after { marks.new ≡ slice_set marks.old cell (joined (marking unmarked marks.old cell) mark) }
-    ensures rose { result ≡ true → AtLeast joined (marking unmarked marks.old cell) mark → ⊥ }
-    ensures stayed { result ≡ false → AtLeast joined (marking unmarked marks.old cell) mark }
+    ensures after { marks.new ≡ slice_set marks.old cell (M.joined (marking M.unmarked marks.old cell) mark) }
+    ensures rose { result ≡ true → AtLeast M.joined (marking M.unmarked marks.old cell) mark → ⊥ }
+    ensures stayed { result ≡ false → AtLeast M.joined (marking M.unmarked marks.old cell) mark }
 {
     let old = mark_of(marks, cell);
     if old.at_least(mark) {
@@ -68,7 +68,7 @@ fn spread_block<M: Mark>(lines: &[Line], from: usize, to: usize, around: M, mark
     requires reads { Reads lines.now (length marks.old) from to }
     requires ordered { from ≤ to }
     requires inside { to ≤ length lines.now }
-    ensures { Passed joined unmarked rank lines.now from to around marks.old marks.new result }
+    ensures { Passed M.joined M.unmarked M.rank lines.now from to around marks.old marks.new result }
 {
     let mut i = from;
     let mut rose = false;
@@ -104,7 +104,7 @@ fn spread_block<M: Mark>(lines: &[Line], from: usize, to: usize, around: M, mark
 }
 
 fn clear<M: Mark>(marks: &mut [M])
-    ensures { (x : ℕ) → x < length marks.new → marking unmarked marks.new x ≡ unmarked }
+    ensures { (x : ℕ) → x < length marks.new → marking M.unmarked marks.new x ≡ M.unmarked }
 {
     for mark in marks.iter_mut() {
         *mark = M::none();
@@ -114,7 +114,7 @@ fn clear<M: Mark>(marks: &mut [M])
 // Gives each marked cell its own mark, and every other cell none.
 fn start<M: Mark>(marked: &[u8], marks: &mut [M])
     requires { Rising (length marks.old) 0 marked.now }
-    ensures { Started joined unmarked owned marked.now marks.new }
+    ensures { Started M.joined M.unmarked M.owned marked.now marks.new }
 {
     clear(marks);
     for cell in marked {
@@ -126,7 +126,7 @@ fn start<M: Mark>(marked: &[u8], marks: &mut [M])
 fn pass<M: Mark>(lines: &[Line], count: usize, marks: &mut [M]) -> bool
     requires reads { Reads lines.now (length marks.old) 0 count }
     requires inside { count ≤ length lines.now }
-    ensures { Passed joined unmarked rank lines.now 0 count unmarked marks.old marks.new result }
+    ensures { Passed M.joined M.unmarked M.rank lines.now 0 count M.unmarked marks.old marks.new result }
 {
     spread_block(lines, 0, count, M::none(), marks)
 }
@@ -137,8 +137,8 @@ fn settle<M: Mark>(lines: &[Line], count: usize, marked: &[u8], marks: &mut [M])
     requires inside { count ≤ length lines.now }
     requires few { length marks.old ≤ 64 }
     requires rising { Rising (length marks.old) 0 marked.now }
-    ensures least { (c : Code) → Spans lines.now 0 count c → Least joined owned (marking unmarked marks.new) marked.now c }
-    ensures passes { result ≤ height * length marks.old + 1 }
+    ensures least { (c : Code) → Spans lines.now 0 count c → Least M.joined M.owned (marking M.unmarked marks.new) marked.now c }
+    ensures passes { result ≤ M.height * length marks.old + 1 }
 {
     start(marked, marks);
     let mut passes = 1;
@@ -161,10 +161,10 @@ pub(crate) fn mark_lines<M: Mark>(
     requires room { cells ≤ length marks.old }
     requires few { cells ≤ 64 }
     requires rising { Rising cells 0 marked.now }
-    ensures least { (c : Code) → Spans lines.now 0 count c → Least joined owned (marking unmarked (take cells marks.new)) marked.now c }
+    ensures least { (c : Code) → Spans lines.now 0 count c → Least M.joined M.owned (marking M.unmarked (take cells marks.new)) marked.now c }
     ensures rest { drop cells marks.new ≡ drop cells marks.old }
     ensures long { length marks.new ≡ length marks.old }
-    ensures passes { result ≤ height * cells + 1 }
+    ensures passes { result ≤ M.height * cells + 1 }
 {
     settle(lines, count, marked, &mut marks[..cells])
 }

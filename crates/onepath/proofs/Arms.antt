@@ -53,8 +53,8 @@ module _ (cov : ℕ → Bool) (xs : List Line) (k d : ℕ) where
         most = omega arith;
         holds = λ c h.
             let v = parts c h in
-            let h₁ = holds_kept cov us vs k d i at m v.one (λ y f g. d₂.below y g) (d₁.holds v.one v.spans-one) in
-            let h₂ = subst (λ y. Holds cov vs k d y m r v.rest) (spans_size xs i z v.one v.spans-one) (d₂.holds v.rest v.spans-rest) in
+            let h₁ = holds_kept cov us vs k d i at m v.one (λ y f g. d₂.below y g) (d₁.holds v.one v.spans_one) in
+            let h₂ = subst (λ y. Holds cov vs k d y m r v.rest) (spans_size xs i z v.one v.spans_one) (d₂.holds v.rest v.spans_rest) in
             subst (λ y. Holds cov vs k d i at r y) (sym v.is) (holds_follow cov vs k d i at m r v.one v.rest h₁ h₂);
       }
 
@@ -120,10 +120,10 @@ if_put cov xs k d i j ts us vs at m r x e lj w ej room l₁ l₂ d₁ d₂ =
           let v = at_if xs i j (omega arith) x e w c h in
           let zz : v.z + 1 ≡ j = sym (ej ∙ ap (past_of xs) w ∙ ap (λ l. end_of l + 1) v.mid) in
           let zj : v.z ≡ j - 1 = omega (arith, zz) in
-          let h₁ = d₁.holds v.first v.spans-first in
-          let h₂ = d₂.holds v.second (subst (λ y. Spans xs (e + 1) y v.second) zj v.spans-second) in
-          let h₃ = subst (λ y. Holds cov vs own d (y + 1) (m + 1) r v.second) (spans_size xs (i + 1) e v.first v.spans-first) h₂ in
-          let last : v.rest ≡ stop = spans_none xs (v.z + 1) j v.rest zz v.spans-rest in
+          let h₁ = d₁.holds v.first v.spans_first in
+          let h₂ = d₂.holds v.second (subst (λ y. Spans xs (e + 1) y v.second) zj v.spans_second) in
+          let h₃ = subst (λ y. Holds cov vs own d (y + 1) (m + 1) r v.second) (spans_size xs (i + 1) e v.first v.spans_first) h₂ in
+          let last : v.rest ≡ stop = spans_none xs (v.z + 1) j v.rest zz v.spans_rest in
           subst (λ y. Holds cov zs k d i at r y) (sym (v.is ∙ ap (λ y. choose x v.first v.second y) last)) (
             m,
             r,
@@ -205,8 +205,8 @@ loop_put cov xs k d i j ts us at m x n e lj w ej room l₁ d₁ =
       holds = λ c h.
           let v = at_loop xs i j (omega arith) x n e w c h in
           let zj : e ≡ j - 1 = omega arith in
-          let h₁ = d₁.holds v.first (subst (λ y. Spans xs (i + 1) y v.first) zj v.spans-first) in
-          let last : v.rest ≡ stop = spans_none xs (e + 1) j v.rest (sym jj) v.spans-rest in
+          let h₁ = d₁.holds v.first (subst (λ y. Spans xs (i + 1) y v.first) zj v.spans_first) in
+          let last : v.rest ≡ stop = spans_none xs (e + 1) j v.rest (sym jj) v.spans_rest in
           subst (λ y. Holds cov zs k d i at r y) (sym (v.is ∙ ap (λ y. repeat x n v.first y) last)) (
             m,
             r,

@@ -51,15 +51,15 @@ module _ (xs : List Line) (i j : ℕ) (more : i ≡ j → ⊥) (k : ℕ) where
   part_construct z (If x m) w ez e c h =
       let v = at_if xs i j more x m w c h in
       let zz : v.z + 1 ≡ z = sym (ez ∙ ap (λ y. end_of y + 1) v.mid) in
-      let l₁ = v.le-first in
-      let l₂ = v.le-second in
-      let l₃ = v.le-rest in
+      let l₁ = v.le_first in
+      let l₂ = v.le_second in
+      let l₃ = v.le_rest in
       record {
         one = choose x v.first v.second stop;
         rest = v.rest;
         is = v.is;
-        spans_one = (m, v.z, w, v.spans-first, v.mid, v.spans-second, v.end, zz);
-        spans_rest = subst (λ y. Spans xs y j v.rest) zz v.spans-rest;
+        spans_one = (m, v.z, w, v.spans_first, v.mid, v.spans_second, v.end, zz);
+        spans_rest = subst (λ y. Spans xs y j v.rest) zz v.spans_rest;
         more = omega arith;
         within = omega arith;
       }
@@ -67,14 +67,14 @@ module _ (xs : List Line) (i j : ℕ) (more : i ≡ j → ⊥) (k : ℕ) where
   part_construct z (End y) w ez e c h = absurd (not_end xs i j more y w c h)
   part_construct z (Loop x n y) w ez e c h =
       let v = at_loop xs i j more x n y w c h in
-      let l₁ = v.le-first in
-      let l₂ = v.le-rest in
+      let l₁ = v.le_first in
+      let l₂ = v.le_rest in
       record {
         one = repeat x n v.first stop;
         rest = v.rest;
         is = v.is;
-        spans_one = (y, w, v.spans-first, v.end, sym ez);
-        spans_rest = subst (λ u. Spans xs u j v.rest) (sym ez) v.spans-rest;
+        spans_one = (y, w, v.spans_first, v.end, sym ez);
+        spans_rest = subst (λ u. Spans xs u j v.rest) (sym ez) v.spans_rest;
         more = omega arith;
         within = omega arith;
       }
@@ -86,8 +86,8 @@ begins_if xs i x m w b =
     let l₀ = b.3 in
     let v = at_if xs i b.0 (omega arith) x m w b.1 b.4 in
     let e : end_of (line_at xs m) ≡ v.z = ap end_of v.mid in
-    let l₂ = v.le-second in
-    let l₃ = v.le-rest in
+    let l₂ = v.le_second in
+    let l₃ = v.le_rest in
     (omega arith, omega (arith, e))
 
 pub begins_loop : (xs : List Line) (i x n z : ℕ) → line_at xs i ≡ Loop x n z → Begins xs i → z < length xs
@@ -95,7 +95,7 @@ begins_loop xs i x n z w b =
     let l = b.2 in
     let l₀ = b.3 in
     let v = at_loop xs i b.0 (omega arith) x n z w b.1 b.4 in
-    let l₁ = v.le-rest in
+    let l₁ = v.le_rest in
     omega arith
 
 module _ (cov : ℕ → Bool) (ts : List Step) (k d : ℕ) where

@@ -2,7 +2,7 @@
 ghost use Rattle.std.specs.Prelude.{count_ones};
 ghost use Rattle.std.proofs.lemmas.Nat.{ones-le, or_comm};
 ghost use Rattle.marking.specs.Sets.{no_origins, own_origin, union};
-ghost use Rattle.marking.specs.Unions.{same_set, or_assoc, ones-rise};
+ghost use Rattle.marking.specs.Unions.{same_set, or_assoc, ones_rise};
 ghost use Rattle.std.specs.Int.Bits.{or_self};
 ghost use Rattle.std.proofs.Common.{rules, arith};
 
@@ -28,7 +28,7 @@ impl Mark for Origins {
 
     ghost neutral = { λ x. same_set _ _ (λ _. x.members) };
 
-    ghost rises = { λ x y ne. ones-rise x.members y.members (λ e. ne (same_set _ _ e)) };
+    ghost rises = { λ x y ne. ones_rise x.members y.members (λ e. ne (same_set _ _ e)) };
 
     ghost tops = { λ x. ones-le 64 x.members x.fits };
 

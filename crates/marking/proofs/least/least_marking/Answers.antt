@@ -6,12 +6,12 @@ use Rattle.marking.specs.Rules.{Least}
 use Rattle.marking.specs.Spread.{marking}
 use Rattle.marking.proofs.least.least_marking.Goals as goal
 
-pub mark-lines-passes-requires : goal.mark-lines-passes-requires
-mark-lines-passes-requires g c =
-    let w = c.in-ok-sheet.ensures.reads in
-    let f = c.in-ok-check-tables.ensures.fits in
+pub mark_lines-passes-requires : goal.mark_lines-passes-requires
+mark_lines-passes-requires g c =
+    let w = c.in_ok-sheet.ensures.reads in
+    let f = c.in_ok-check_tables.ensures.fits in
     let p = w.0 in
-    let s = c.in-ok-sheet.sheet in
+    let s = c.in_ok-sheet.sheet in
     let law = w.1.lawful in
     let lines = w.2.lines in
     let cells = w.2.cells in
@@ -30,19 +30,19 @@ mark-lines-passes-requires g c =
 
 pub returns : goal.returns
 returns g c =
-    let w = c.in-ok-sheet.ensures.reads in
-    let f = c.in-ok-check-tables.ensures.fits in
+    let w = c.in_ok-sheet.ensures.reads in
+    let f = c.in_ok-check_tables.ensures.fits in
     let p = w.0 in
-    let s = c.in-ok-sheet.sheet in
-    let m = c.mark-lines-passes.ensures in
-    let after = c.mark-lines-passes.new.marks in
+    let s = c.in_ok-sheet.sheet in
+    let m = c.mark_lines-passes.ensures in
+    let after = c.mark_lines-passes.new.marks in
     let cells = w.2.cells in
     let same = laid_cells c.args.bytes.now p w.1 in
     let same' = laid_cells c.args.bytes.now f.program f.laid in
     let room = f.cells in
     let least = m.least p.code (filled_spans p c.args.lines.now c.read.new.table s.lines w.3 w.2.lines) in
     record {
-      first = c.in-ok-check-tables.ensures.first;
+      first = c.in_ok-check_tables.ensures.first;
       marks = (
         p,
         w.1,
@@ -54,7 +54,7 @@ returns g c =
           rest = subst (λ n. drop n after ≡ drop n c.args.marks.now) cells m.rest;
           long = m.long;
           room = omega arith;
-          few = subst (λ n. c.mark-lines-passes.result ≤ g.M.Mark.height * n + 1) cells m.passes;
+          few = subst (λ n. c.mark_lines-passes.result ≤ g.M.Mark.height * n + 1) cells m.passes;
         },
       );
     }

@@ -2,7 +2,7 @@ use Rattle.std.proofs.Common.{◌≡◌, ◌+◌, ◌<◌, Bool, false, ◌||◌
 use Rattle.marking.specs.Spread.{Reads, Passed}
 use Rattle.marking.proofs.Order.{Laws}
 use Rattle.marking.proofs.Views.{reads_work, reads_literal, reads_if, reads_loop, no_else, no_end}
-use Rattle.marking.proofs.Steps.{Raised, or_more, or_none, pass-none, pass-work, pass-literal, pass-if, pass-loop}
+use Rattle.marking.proofs.Steps.{Raised, or_more, or_none, pass_none, pass_work, pass_literal, pass_if, pass_loop}
 use Rattle.marking.proofs.spread.+spread_block.Given as given
 use Rattle.marking.proofs.spread.+spread_block.Goals as goal
 
@@ -13,8 +13,8 @@ laws g =
 
 -- work lines
 
-pub given-mark-mark-requires : goal.given-mark-mark-requires
-given-mark-mark-requires g t c =
+pub given_mark-mark-requires : goal.given_mark-mark-requires
+given_mark-mark-requires g t c =
     let v = reads_work _ _ _ _ (omega arith) c.loop-i.invariant.2 _ _ _ _ c.in-Work.is in
     record { left = omega (arith, v.left, c.loop-i.auto.marks); right = omega (arith, v.right, c.loop-i.auto.marks) }
 
@@ -32,14 +32,14 @@ loop-i-preserved-in-Work g t c =
     let us = c.raise-rose.new.marks in
     let w = c.args.around in
     let q = c.raise-rose.result in
-    let d : Raised join none ts us c.in-Work.target c.given-mark-mark.result q =
+    let d : Raised join none ts us c.in-Work.target c.given_mark-mark.result q =
     record { inside = omega (arith, v.target, c.loop-i.auto.marks); after = c.raise-rose.ensures.after; rises = c.raise-rose.ensures.rose; stays = c.raise-rose.ensures.stayed } in
-    let d' = subst (λ y. Raised join none ts us c.in-Work.target y q) c.given-mark-mark.ensures d in (
+    let d' = subst (λ y. Raised join none ts us c.in-Work.target y q) c.given_mark-mark.ensures d in (
       omega arith,
       omega arith,
       v.rest,
       λ vs r n. or_more (λ q. Passed join none g.M.Mark.rank c.args.lines.now c.args.from c.args.to w c.args.marks.now vs q) c.loop-i.rose q r
-          (c.loop-i.invariant.3 vs _ (pass-work (laws g) c.args.lines.now w c.loop-i.i c.args.to (omega arith) ts us vs _ _ _ _ _ _ c.in-Work.is d' n)),
+          (c.loop-i.invariant.3 vs _ (pass_work (laws g) c.args.lines.now w c.loop-i.i c.args.to (omega arith) ts us vs _ _ _ _ _ _ c.in-Work.is d' n)),
     )
 
 -- literal lines
@@ -64,18 +64,18 @@ loop-i-preserved-in-Literal g t c =
       omega arith,
       v.rest,
       λ vs r n. or_more (λ q. Passed join none g.M.Mark.rank c.args.lines.now c.args.from c.args.to w c.args.marks.now vs q) c.loop-i.rose q r
-          (c.loop-i.invariant.3 vs _ (pass-literal (laws g) c.args.lines.now w c.loop-i.i c.args.to (omega arith) ts us vs _ _ _ _ c.in-Literal.is d n)),
+          (c.loop-i.invariant.3 vs _ (pass_literal (laws g) c.args.lines.now w c.loop-i.i c.args.to (omega arith) ts us vs _ _ _ _ c.in-Literal.is d n)),
     )
 
 -- an if
 
-pub around-blocks-inside-requires : goal.around-blocks-inside-requires
-around-blocks-inside-requires g t c =
+pub around_blocks-inside-requires : goal.around_blocks-inside-requires
+around_blocks-inside-requires g t c =
     let v = reads_if _ _ _ _ (omega arith) c.loop-i.invariant.2 _ _ _ c.in-If.is refl in
     omega (arith, v.cell, c.loop-i.auto.marks)
 
-pub offset-bounds-lines-partner : goal.offset-bounds-lines-partner
-offset-bounds-lines-partner g t c =
+pub offset_bounds-lines-partner : goal.offset_bounds-lines-partner
+offset_bounds-lines-partner g t c =
     let v = reads_if _ _ _ _ (omega arith) c.loop-i.invariant.2 _ _ _ c.in-If.is refl in
     let l : c.in-If.partner < length c.args.lines.now = omega (arith, v.le-second, v.le-rest) in
     search rules
@@ -85,9 +85,9 @@ bounds-lines-partner g t c =
     let v = reads_if _ _ _ _ (omega arith) c.loop-i.invariant.2 _ _ _ c.in-If.is refl in
     omega (arith, v.le-second, v.le-rest)
 
-pub spread-block-rose-requires : goal.spread-block-rose-requires
-spread-block-rose-requires g t c κs =
-    let v = reads_if _ _ _ _ (omega arith) c.loop-i.invariant.2 _ _ _ c.in-If.is c.end-of-end.ensures in
+pub spread_block-rose-requires : goal.spread_block-rose-requires
+spread_block-rose-requires g t c κs =
+    let v = reads_if _ _ _ _ (omega arith) c.loop-i.invariant.2 _ _ _ c.in-If.is c.end_of-end.ensures in
     λ lives. (
       omega (arith, c.decreases, v.le-first, v.le-second, v.le-rest),
       (
@@ -99,75 +99,75 @@ spread-block-rose-requires g t c κs =
       ),
     )
 
-pub overflow-add-partner : goal.overflow-add-partner
-overflow-add-partner g t c =
-    let v = reads_if _ _ _ _ (omega arith) c.loop-i.invariant.2 _ _ _ c.in-If.is c.end-of-end.ensures in
+pub overflow_add-partner : goal.overflow_add-partner
+overflow_add-partner g t c =
+    let v = reads_if _ _ _ _ (omega arith) c.loop-i.invariant.2 _ _ _ c.in-If.is c.end_of-end.ensures in
     let l : c.in-If.partner < length c.args.lines.now = omega (arith, v.le-second, v.le-rest) in
     search rules
 
-pub spread-block-rose-requires-in-If : goal.spread-block-rose-requires-in-If
-spread-block-rose-requires-in-If g t c κs =
-    let v = reads_if _ _ _ _ (omega arith) c.loop-i.invariant.2 _ _ _ c.in-If.is c.end-of-end.ensures in
-    let grown = c.spread-block-rose.ensures.moved.long in
-    let long : length c.spread-block-rose.new.marks ≡ length c.args.marks.now = cc in
+pub spread_block-rose-requires-in-If : goal.spread_block-rose-requires-in-If
+spread_block-rose-requires-in-If g t c κs =
+    let v = reads_if _ _ _ _ (omega arith) c.loop-i.invariant.2 _ _ _ c.in-If.is c.end_of-end.ensures in
+    let grown = c.spread_block-rose.ensures.moved.long in
+    let long : length c.spread_block-rose.new.marks ≡ length c.args.marks.now = cc in
     λ lives. (
       omega (arith, c.decreases, v.le-first, v.le-second, v.le-rest),
       (
         lives,
         (
-          subst (λ n. Reads c.args.lines.now n (c.in-If.partner + 1) c.end-of-end.result) (sym long) v.second,
+          subst (λ n. Reads c.args.lines.now n (c.in-If.partner + 1) c.end_of-end.result) (sym long) v.second,
           (v.le-second, omega (arith, v.le-rest)),
         ),
       ),
     )
 
-pub overflow-add-i-in-If-2 : goal.overflow-add-i-in-If-2
-overflow-add-i-in-If-2 g t c =
-    let v = reads_if _ _ _ _ (omega arith) c.loop-i.invariant.2 _ _ _ c.in-If.is c.end-of-end.ensures in
-    let l : c.end-of-end.result < length c.args.lines.now = omega (arith, v.le-rest) in
+pub overflow_add-i-in-If-2 : goal.overflow_add-i-in-If-2
+overflow_add-i-in-If-2 g t c =
+    let v = reads_if _ _ _ _ (omega arith) c.loop-i.invariant.2 _ _ _ c.in-If.is c.end_of-end.ensures in
+    let l : c.end_of-end.result < length c.args.lines.now = omega (arith, v.le-rest) in
     search rules
 
 pub loop-i-smaller-in-If : goal.loop-i-smaller-in-If
 loop-i-smaller-in-If g t c =
-    let v = reads_if _ _ _ _ (omega arith) c.loop-i.invariant.2 _ _ _ c.in-If.is c.end-of-end.ensures in
+    let v = reads_if _ _ _ _ (omega arith) c.loop-i.invariant.2 _ _ _ c.in-If.is c.end_of-end.ensures in
     omega (arith, v.le-first, v.le-second, v.le-rest)
 
 pub loop-i-preserved-in-If : goal.loop-i-preserved-in-If
 loop-i-preserved-in-If g t c =
-    let v = reads_if _ _ _ _ (omega arith) c.loop-i.invariant.2 _ _ _ c.in-If.is c.end-of-end.ensures in
+    let v = reads_if _ _ _ _ (omega arith) c.loop-i.invariant.2 _ _ _ c.in-If.is c.end_of-end.ensures in
     let join = g.M.Mark.joined in
     let none = g.M.Mark.unmarked in
     let xs = c.args.lines.now in
     let i = c.loop-i.i in
-    let z = c.end-of-end.result in
+    let z = c.end_of-end.result in
     let k = c.in-If.partner in
     let ts = c.loop-i.marks in
-    let us = c.spread-block-rose.new.marks in
-    let us' = c.spread-block-rose-in-If.new.marks in
+    let us = c.spread_block-rose.new.marks in
+    let us' = c.spread_block-rose-in-If.new.marks in
     let w = c.args.around in
-    let r₁ = c.spread-block-rose.result in
-    let r₂ = c.spread-block-rose-in-If.result in
-    let inside = c.around-blocks-inside.ensures in
-    let d₁ = subst (λ y. Passed join none g.M.Mark.rank xs (i + 1) k y ts us r₁) inside c.spread-block-rose.ensures in
-    let d₂ = subst (λ y. Passed join none g.M.Mark.rank xs (k + 1) z y us us' r₂) inside c.spread-block-rose-in-If.ensures in (
+    let r₁ = c.spread_block-rose.result in
+    let r₂ = c.spread_block-rose-in-If.result in
+    let inside = c.around_blocks-inside.ensures in
+    let d₁ = subst (λ y. Passed join none g.M.Mark.rank xs (i + 1) k y ts us r₁) inside c.spread_block-rose.ensures in
+    let d₂ = subst (λ y. Passed join none g.M.Mark.rank xs (k + 1) z y us us' r₂) inside c.spread_block-rose-in-If.ensures in (
       omega (arith, v.le-first, v.le-second),
       v.le-rest,
       v.rest,
       λ vs r n.
           let P = λ (q : Bool). Passed join none g.M.Mark.rank xs c.args.from c.args.to w c.args.marks.now vs q in
           or_more P (c.loop-i.rose || r₁) r₂ r (or_more P c.loop-i.rose r₁ (r₂ || r)
-          (c.loop-i.invariant.3 vs _ (pass-if (laws g) xs w i c.args.to (omega arith) ts us us' vs _ _ z r₁ r₂ r c.in-If.is c.end-of-end.ensures d₁ d₂ n))),
+          (c.loop-i.invariant.3 vs _ (pass_if (laws g) xs w i c.args.to (omega arith) ts us us' vs _ _ z r₁ r₂ r c.in-If.is c.end_of-end.ensures d₁ d₂ n))),
     )
 
 -- a loop
 
-pub around-blocks-inside-requires-in-Loop : goal.around-blocks-inside-requires-in-Loop
-around-blocks-inside-requires-in-Loop g t c =
+pub around_blocks-inside-requires-in-Loop : goal.around_blocks-inside-requires-in-Loop
+around_blocks-inside-requires-in-Loop g t c =
     let v = reads_loop _ _ _ _ (omega arith) c.loop-i.invariant.2 _ _ _ c.in-Loop.is in
     omega (arith, v.cell, c.loop-i.auto.marks)
 
-pub spread-block-rose-requires-in-Loop : goal.spread-block-rose-requires-in-Loop
-spread-block-rose-requires-in-Loop g t c κs =
+pub spread_block-rose-requires-in-Loop : goal.spread_block-rose-requires-in-Loop
+spread_block-rose-requires-in-Loop g t c κs =
     let v = reads_loop _ _ _ _ (omega arith) c.loop-i.invariant.2 _ _ _ c.in-Loop.is in
     λ lives. (
       omega (arith, c.decreases, v.le-first, v.le-rest),
@@ -180,8 +180,8 @@ spread-block-rose-requires-in-Loop g t c κs =
       ),
     )
 
-pub overflow-add-i-in-Loop-2 : goal.overflow-add-i-in-Loop-2
-overflow-add-i-in-Loop-2 g t c =
+pub overflow_add-i-in-Loop-2 : goal.overflow_add-i-in-Loop-2
+overflow_add-i-in-Loop-2 g t c =
     let v = reads_loop _ _ _ _ (omega arith) c.loop-i.invariant.2 _ _ _ c.in-Loop.is in
     let l : c.in-Loop.partner < length c.args.lines.now = omega (arith, v.le-rest) in
     search rules
@@ -200,16 +200,16 @@ loop-i-preserved g t c =
     let i = c.loop-i.i in
     let z = c.in-Loop.partner in
     let ts = c.loop-i.marks in
-    let us = c.spread-block-rose-in-Loop.new.marks in
+    let us = c.spread_block-rose-in-Loop.new.marks in
     let w = c.args.around in
-    let r₁ = c.spread-block-rose-in-Loop.result in
-    let inside = c.around-blocks-inside-in-Loop.ensures in
-    let d = subst (λ y. Passed join none g.M.Mark.rank xs (i + 1) z y ts us r₁) inside c.spread-block-rose-in-Loop.ensures in (
+    let r₁ = c.spread_block-rose-in-Loop.result in
+    let inside = c.around_blocks-inside-in-Loop.ensures in
+    let d = subst (λ y. Passed join none g.M.Mark.rank xs (i + 1) z y ts us r₁) inside c.spread_block-rose-in-Loop.ensures in (
       omega (arith, v.le-first),
       v.le-rest,
       v.rest,
       λ vs r n. or_more (λ q. Passed join none g.M.Mark.rank xs c.args.from c.args.to w c.args.marks.now vs q) c.loop-i.rose r₁ r
-          (c.loop-i.invariant.3 vs _ (pass-loop (laws g) xs w i c.args.to (omega arith) ts us vs _ _ z r₁ r c.in-Loop.is d n)),
+          (c.loop-i.invariant.3 vs _ (pass_loop (laws g) xs w i c.args.to (omega arith) ts us vs _ _ z r₁ r c.in-Loop.is d n)),
     )
 
 -- no other line begins a block's rest
@@ -223,4 +223,4 @@ unreachable-requires-in-End g t c = no_end _ _ _ _ (omega arith) c.loop-i.invari
 pub returns : goal.returns
 returns g t c =
     let P = λ (q : Bool). Passed g.M.Mark.joined g.M.Mark.unmarked g.M.Mark.rank c.args.lines.now c.args.from c.args.to c.args.around c.args.marks.now c.loop-i.marks q in
-    or_none P c.loop-i.rose (c.loop-i.invariant.3 c.loop-i.marks false (pass-none (laws g) _ _ c.loop-i.i c.args.to c.loop-i.marks (omega arith)))
+    or_none P c.loop-i.rose (c.loop-i.invariant.3 c.loop-i.marks false (pass_none (laws g) _ _ c.loop-i.i c.args.to c.loop-i.marks (omega arith)))

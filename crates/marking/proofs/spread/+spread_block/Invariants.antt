@@ -2,8 +2,8 @@ use Rattle.std.proofs.Common.{◌-◌, ◌≤◌, Bool, ◌||◌, List, length}
 use Rattle.marking.specs.Spread.{Reads, Passed}
 use Rattle.marking.proofs.spread.+spread_block.Given as goal
 
-abbrev pub decreases-spread-block : goal.decreases-spread-block
-decreases-spread-block g l = l.to - l.from
+abbrev pub decreases-spread_block : goal.decreases-spread_block
+decreases-spread_block g l = l.to - l.from
 
 -- what a pass over the lines that are left does completes the pass over the block
 abbrev pub invariant-loop-i : goal.invariant-loop-i

@@ -25,8 +25,8 @@ returns g c =
       passes = subst (λ n. c.loop-passes.passes ≤ g.M.Mark.height * n + 1) long (omega (arith, most, c.loop-passes.invariant.2));
     }
 
-pub overflow-add-passes : goal.overflow-add-passes
-overflow-add-passes g c =
+pub overflow_add-passes : goal.overflow_add-passes
+overflow_add-passes g c =
     let n = length c.loop-passes.marks in
     let most = total_most (laws g) c.loop-passes.marks in
     let room = mul-le g.M.Mark.height n (2 ^ 32) 64 (omega (arith, g.met.M.Mark.low)) (omega (arith, c.loop-passes.auto.marks, c.start.auto.marks, c.requires.few)) in

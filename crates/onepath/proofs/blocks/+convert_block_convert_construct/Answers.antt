@@ -16,7 +16,7 @@ convert-block-loop-i-preserved-in-Some t c =
       omega arith,
       omega arith,
       simp length-set (omega arith),
-      (v.rest, v.spans-rest),
+      (v.rest, v.spans_rest),
       λ us r d. c.loop-i.invariant.4 us r
           (joined _ c.args.lines.now c.args.around.level c.args.around.loops c.loop-i.i (c.loop-i.i + 1) c.args.to c.loop-i.steps _ us c.loop-i.n _ r (omega arith) (omega arith) parts
           (plain _ _ _ _ _ _ _ _ (omega arith) c.in-Some.ensures) d),
@@ -27,7 +27,7 @@ convert-block-convert-construct-n-requires t c =
     let v = part_construct c.args.lines.now c.loop-i.i c.args.to (omega arith) c.args.around.level c.past-construct-next-line.result _ refl c.past-construct-next-line.ensures c.in-default.ensures c.loop-i.invariant.3.0 c.loop-i.invariant.3.1 in
     let m = v.more in
     let w = v.within in
-    (omega (arith, c.decreases), ((v.one, v.spans-one), (c.past-construct-next-line.ensures, (m, (omega arith, (omega arith, (omega arith, omega arith)))))))
+    (omega (arith, c.decreases), ((v.one, v.spans_one), (c.past-construct-next-line.ensures, (m, (omega arith, (omega arith, (omega arith, omega arith)))))))
 
 pub convert-block-loop-i-smaller : goal.convert-block-loop-i-smaller
 convert-block-loop-i-smaller t c =
@@ -44,7 +44,7 @@ convert-block-loop-i-preserved t c =
       omega arith,
       w,
       omega (arith, d₁.long, d₁.most),
-      (v.rest, v.spans-rest),
+      (v.rest, v.spans_rest),
       λ us r d. c.loop-i.invariant.4 us r
           (joined _ c.args.lines.now c.args.around.level c.args.around.loops c.loop-i.i c.past-construct-next-line.result c.args.to c.loop-i.steps _ us c.loop-i.n _ r (omega arith) w parts d₁ d),
     )
@@ -59,21 +59,21 @@ pub convert-construct-convert-block-mid-requires :
 convert-construct-convert-block-mid-requires t c =
     let v = at_if c.args.lines.now c.args.from c.args.to (omega arith) _ _ c.in-If.is c.requires.reads.0 c.requires.reads.1 in
     let i = c.in-if-inner.ensures in (
-      omega (arith, c.decreases, v.le-first, v.le-second, v.le-rest),
-      ((v.first, v.spans-first), (v.le-first, (omega (arith, v.le-second, v.le-rest), (omega (arith, v.le-first, v.le-second, v.le-rest), (omega (arith, i.most), omega (arith, i.loops)))))),
+      omega (arith, c.decreases, v.le_first, v.le_second, v.le_rest),
+      ((v.first, v.spans_first), (v.le_first, (omega (arith, v.le_second, v.le_rest), (omega (arith, v.le_first, v.le_second, v.le_rest), (omega (arith, i.most), omega (arith, i.loops)))))),
     )
 
 pub convert-construct-overflow-add-partner : goal.convert-construct-overflow-add-partner
 convert-construct-overflow-add-partner t c =
     let v = at_if c.args.lines.now c.args.from c.args.to (omega arith) _ _ c.in-If.is c.requires.reads.0 c.requires.reads.1 in
-    let l : c.in-If.partner < length c.args.lines.now = omega (arith, v.le-second, v.le-rest) in
+    let l : c.in-If.partner < length c.args.lines.now = omega (arith, v.le_second, v.le_rest) in
     search rules
 
 pub convert-construct-overflow-add-mid : goal.convert-construct-overflow-add-mid
 convert-construct-overflow-add-mid t c =
     let v = at_if c.args.lines.now c.args.from c.args.to (omega arith) _ _ c.in-If.is c.requires.reads.0 c.requires.reads.1 in
     let d = c.convert-block-mid.ensures in
-    let l : c.convert-block-mid.result < length c.args.steps.now = omega (arith, d.most, v.le-first, v.le-second, v.le-rest) in
+    let l : c.convert-block-mid.result < length c.args.steps.now = omega (arith, d.most, v.le_first, v.le_second, v.le_rest) in
     search rules
 
 pub convert-construct-convert-block-next-requires :
@@ -84,10 +84,10 @@ convert-construct-convert-block-next-requires t c =
     let i = c.in-if-inner.ensures in
     let zz : v.z + 1 ≡ c.args.to = sym (c.requires.one ∙ ap (past_of c.args.lines.now) c.in-If.is ∙ ap (λ l. end_of l + 1) v.mid) in
     let zj : v.z ≡ c.args.to - 1 = omega (arith, zz) in (
-      omega (arith, c.decreases, zz, v.le-first, v.le-second),
+      omega (arith, c.decreases, zz, v.le_first, v.le_second),
       (
-        (v.second, subst (λ y. Spans c.args.lines.now (c.in-If.partner + 1) y v.second) zj v.spans-second),
-        (omega (arith, zz, v.le-second), (omega arith, (omega (arith, zz, d.long, d.most, v.le-first, v.le-second), (omega (arith, i.most, v.le-first), omega (arith, i.loops, v.le-first))))),
+        (v.second, subst (λ y. Spans c.args.lines.now (c.in-If.partner + 1) y v.second) zj v.spans_second),
+        (omega (arith, zz, v.le_second), (omega arith, (omega (arith, zz, d.long, d.most, v.le_first, v.le_second), (omega (arith, i.most, v.le_first), omega (arith, i.loops, v.le_first))))),
       ),
     )
 
@@ -98,10 +98,10 @@ convert-construct-convert-block-mid-requires-in-Loop t c =
     let i = c.in-loop-inner.ensures.most in
     let jj : c.args.to ≡ c.in-Loop.partner + 1 = c.requires.one ∙ ap (past_of c.args.lines.now) c.in-Loop.is in
     let zj : c.in-Loop.partner ≡ c.args.to - 1 = omega (arith, jj) in (
-      omega (arith, c.decreases, jj, v.le-first),
+      omega (arith, c.decreases, jj, v.le_first),
       (
-        (v.first, subst (λ y. Spans c.args.lines.now (c.args.from + 1) y v.first) zj v.spans-first),
-        (omega (arith, jj, v.le-first), (omega arith, (omega (arith, jj, v.le-first), (omega (arith, i.0), omega (arith, i.1))))),
+        (v.first, subst (λ y. Spans c.args.lines.now (c.args.from + 1) y v.first) zj v.spans_first),
+        (omega (arith, jj, v.le_first), (omega arith, (omega (arith, jj, v.le_first), (omega (arith, i.0), omega (arith, i.1))))),
       ),
     )
 
@@ -110,13 +110,13 @@ convert-construct-put-requires t c =
     let v = at_if c.args.lines.now c.args.from c.args.to (omega arith) _ _ c.in-If.is c.requires.reads.0 c.requires.reads.1 in
     let d₁ = c.convert-block-mid.ensures in
     let d₂ = c.convert-block-next.ensures in
-    (omega (arith, d₁.least), omega (arith, d₁.most, d₁.long, d₂.long, v.le-first, v.le-second, v.le-rest))
+    (omega (arith, d₁.least), omega (arith, d₁.most, d₁.long, d₂.long, v.le_first, v.le_second, v.le_rest))
 
 pub convert-construct-put-requires-in-Loop : goal.convert-construct-put-requires-in-Loop
 convert-construct-put-requires-in-Loop t c =
     let v = at_loop c.args.lines.now c.args.from c.args.to (omega arith) _ _ _ c.in-Loop.is c.requires.reads.0 c.requires.reads.1 in
     let d₁ = c.convert-block-mid-in-Loop.ensures in
-    (omega (arith, d₁.least), omega (arith, d₁.most, d₁.long, v.le-first, v.le-rest))
+    (omega (arith, d₁.least), omega (arith, d₁.most, d₁.long, v.le_first, v.le_rest))
 
 -- what the construct leaves
 
@@ -126,7 +126,7 @@ convert-construct-returns-in-If t c =
     let zz : v.z + 1 ≡ c.args.to = sym (c.requires.one ∙ ap (past_of c.args.lines.now) c.in-If.is ∙ ap (λ l. end_of l + 1) v.mid) in
     let i = c.in-if-inner.ensures in
     whole_if (covered_in c.args.covered.now) c.args.lines.now c.args.around.level c.args.around.loops c.args.from c.args.to c.args.steps.now _ _ _ c.args.at c.convert-block-mid.result _ c.in-If.cell _ c.is-cell-covered-is-covered.result _ _
-    (omega arith) c.in-If.is c.requires.one (omega arith) v.le-first (omega (arith, zz, v.le-second))
+    (omega arith) c.in-If.is c.requires.one (omega arith) v.le_first (omega (arith, zz, v.le_second))
     c.is-cell-covered-is-covered.ensures i.level i.loops c.convert-block-mid.ensures c.convert-block-next.ensures c.put.ensures
 
 pub convert-construct-returns-in-Loop : goal.convert-construct-returns-in-Loop
@@ -134,5 +134,5 @@ convert-construct-returns-in-Loop t c =
     let v = at_loop c.args.lines.now c.args.from c.args.to (omega arith) _ _ _ c.in-Loop.is c.requires.reads.0 c.requires.reads.1 in
     let i = c.in-loop-inner.ensures in
     whole_loop (covered_in c.args.covered.now) c.args.lines.now c.args.around.level c.args.around.loops c.args.from c.args.to c.args.steps.now _ _ c.args.at c.convert-block-mid-in-Loop.result _ c.in-Loop.cell c.in-Loop.bound _ c.is-loop-covered-is-covered.result _ _
-    (omega arith) c.in-Loop.is c.requires.one (omega arith) (omega (arith, v.le-first, v.le-rest))
+    (omega arith) c.in-Loop.is c.requires.one (omega arith) (omega (arith, v.le_first, v.le_rest))
     c.is-loop-covered-is-covered.ensures i.level i.loops c.convert-block-mid-in-Loop.ensures c.put-in-Loop.ensures.steps c.put-in-Loop.ensures.next

@@ -40,26 +40,26 @@ run-block-loop-i-preserved-in-Literal g t c =
 pub run-block-offset-bounds-lines-partner : goal.run-block-offset-bounds-lines-partner
 run-block-offset-bounds-lines-partner g t c =
     let a = at_if c.args.lines.now c.loop-i.i c.args.to (omega arith) _ _ c.in-If.is c.loop-i.invariant.2.0 c.loop-i.invariant.2.1 in
-    let l : c.in-If.partner < length c.args.lines.now = omega (arith, a.le-second, a.le-rest) in
+    let l : c.in-If.partner < length c.args.lines.now = omega (arith, a.le_second, a.le_rest) in
     search rules
 
 pub run-block-bounds-lines-partner : goal.run-block-bounds-lines-partner
 run-block-bounds-lines-partner g t c =
     let a = at_if c.args.lines.now c.loop-i.i c.args.to (omega arith) _ _ c.in-If.is c.loop-i.invariant.2.0 c.loop-i.invariant.2.1 in
-    omega (arith, a.le-second, a.le-rest)
+    omega (arith, a.le_second, a.le_rest)
 
 pub run-block-run-if-requires : goal.run-block-run-if-requires
 run-block-run-if-requires g t c κs within =
     let a = at_if c.args.lines.now c.loop-i.i c.args.to (omega arith) _ _ c.in-If.is c.loop-i.invariant.2.0 c.loop-i.invariant.2.1 in
     let e : a.z ≡ c.end-of-end.result = sym (c.end-of-end.ensures ∙ ap end_of a.mid) in (
-      omega (arith, c.decreases, e, a.le-first, a.le-second, a.le-rest),
+      omega (arith, c.decreases, e, a.le_first, a.le_second, a.le_rest),
       (
         within,
         (
-          (a.first, a.spans-first),
+          (a.first, a.spans_first),
           (
-            (a.second, subst (λ z. Spans c.args.lines.now (c.in-If.partner + 1) z a.second) e a.spans-second),
-            ((omega (arith, a.le-first), omega (arith, e, a.le-second)), omega (arith, e, a.le-rest)),
+            (a.second, subst (λ z. Spans c.args.lines.now (c.in-If.partner + 1) z a.second) e a.spans_second),
+            ((omega (arith, a.le_first), omega (arith, e, a.le_second)), omega (arith, e, a.le_rest)),
           ),
         ),
       ),
@@ -76,26 +76,26 @@ run-block-returns-in-Some g t c =
     let k = c.loop-i.invariant.3 d s in
     let a = at_if c.args.lines.now c.loop-i.i c.args.to (omega arith) _ _ c.in-If.is k.0 k.1 in
     let e : a.z ≡ c.end-of-end.result = sym (c.end-of-end.ensures ∙ ap end_of a.mid) in
-    let second = subst (λ z. Spans xs (c.in-If.partner + 1) z a.second) e a.spans-second in
-    let m = spans_size xs (i + 1) c.in-If.partner a.first a.spans-first in
+    let second = subst (λ z. Spans xs (c.in-If.partner + 1) z a.second) e a.spans_second in
+    let m = spans_size xs (i + 1) c.in-If.partner a.first a.spans_first in
     let z = spans_size xs (c.in-If.partner + 1) c.end-of-end.result a.second second in
     let r = c.in-Some.ensures in
     if-breaks v c.in-If.cell i a.first a.second a.rest w c.in-If.partner c.end-of-end.result m z c.is-true.result (sym c.is-true.ensures) c.in-Some.broke (map f c.run-if.new.cells)
-    (λ y. r.yes y a.first a.spans-first) (λ y. r.no y a.second second)
+    (λ y. r.yes y a.first a.spans_first) (λ y. r.no y a.second second)
     ∙ sym (ap (λ y. branching v y i w) a.is) ∙ k.2
 
 pub run-block-overflow-add-i-in-If : goal.run-block-overflow-add-i-in-If
 run-block-overflow-add-i-in-If g t c =
     let a = at_if c.args.lines.now c.loop-i.i c.args.to (omega arith) _ _ c.in-If.is c.loop-i.invariant.2.0 c.loop-i.invariant.2.1 in
     let e : c.end-of-end.result ≡ a.z = c.end-of-end.ensures ∙ ap end_of a.mid in
-    let l : c.end-of-end.result < length c.args.lines.now = omega (arith, e, a.le-rest) in
+    let l : c.end-of-end.result < length c.args.lines.now = omega (arith, e, a.le_rest) in
     search rules
 
 pub run-block-loop-i-smaller-in-If : goal.run-block-loop-i-smaller-in-If
 run-block-loop-i-smaller-in-If g t c =
     let a = at_if c.args.lines.now c.loop-i.i c.args.to (omega arith) _ _ c.in-If.is c.loop-i.invariant.2.0 c.loop-i.invariant.2.1 in
     let e : c.end-of-end.result ≡ a.z = c.end-of-end.ensures ∙ ap end_of a.mid in
-    omega (arith, e, a.le-first, a.le-second, a.le-rest)
+    omega (arith, e, a.le_first, a.le_second, a.le_rest)
 
 pub run-block-loop-i-preserved-in-If : goal.run-block-loop-i-preserved-in-If
 run-block-loop-i-preserved-in-If g t c =
@@ -106,21 +106,21 @@ run-block-loop-i-preserved-in-If g t c =
     let w = map f c.loop-i.cells in
     let b = at_if c.args.lines.now c.loop-i.i c.args.to (omega arith) _ _ c.in-If.is c.loop-i.invariant.2.0 c.loop-i.invariant.2.1 in
     let eb : b.z ≡ c.end-of-end.result = sym (c.end-of-end.ensures ∙ ap end_of b.mid) in (
-      omega (arith, eb, b.le-first, b.le-second),
-      omega (arith, eb, b.le-rest),
-      (b.rest, subst (λ y. Spans xs (y + 1) c.args.to b.rest) eb b.spans-rest),
+      omega (arith, eb, b.le_first, b.le_second),
+      omega (arith, eb, b.le_rest),
+      (b.rest, subst (λ y. Spans xs (y + 1) c.args.to b.rest) eb b.spans_rest),
       λ d s.
           let k = c.loop-i.invariant.3 d s in
           let a = at_if c.args.lines.now c.loop-i.i c.args.to (omega arith) _ _ c.in-If.is k.0 k.1 in
           let e : a.z ≡ c.end-of-end.result = sym (c.end-of-end.ensures ∙ ap end_of a.mid) in
-          let second = subst (λ z. Spans xs (c.in-If.partner + 1) z a.second) e a.spans-second in
-          let m = spans_size xs (i + 1) c.in-If.partner a.first a.spans-first in
+          let second = subst (λ z. Spans xs (c.in-If.partner + 1) z a.second) e a.spans_second in
+          let m = spans_size xs (i + 1) c.in-If.partner a.first a.spans_first in
           let z = spans_size xs (c.in-If.partner + 1) c.end-of-end.result a.second second in
           let r = c.in-default.ensures in (
             a.rest,
-            subst (λ y. Spans xs (y + 1) c.args.to a.rest) e a.spans-rest,
+            subst (λ y. Spans xs (y + 1) c.args.to a.rest) e a.spans_rest,
             if-goes v c.in-If.cell i a.first a.second a.rest w c.in-If.partner c.end-of-end.result m z c.is-true.result (sym c.is-true.ensures) (map f c.run-if.new.cells)
-                (λ y. r.yes y a.first a.spans-first) (λ y. r.no y a.second second)
+                (λ y. r.yes y a.first a.spans_first) (λ y. r.no y a.second second)
                 ∙ sym (ap (λ y. branching v y i w) a.is) ∙ k.2,
           ),
     )
@@ -128,7 +128,7 @@ run-block-loop-i-preserved-in-If g t c =
 pub run-block-run-loop-requires : goal.run-block-run-loop-requires
 run-block-run-loop-requires g t c κs within =
     let a = at_loop c.args.lines.now c.loop-i.i c.args.to (omega arith) _ _ _ c.in-Loop.is c.loop-i.invariant.2.0 c.loop-i.invariant.2.1 in
-    (omega (arith, c.decreases, a.le-first, a.le-rest), (within, ((a.first, a.spans-first), (omega (arith, a.le-first), omega (arith, a.le-rest)))))
+    (omega (arith, c.decreases, a.le_first, a.le_rest), (within, ((a.first, a.spans_first), (omega (arith, a.le_first), omega (arith, a.le_rest)))))
 
 pub run-block-returns-in-Some-run-loop : goal.run-block-returns-in-Some-run-loop
 run-block-returns-in-Some-run-loop g t c =
@@ -140,19 +140,19 @@ run-block-returns-in-Some-run-loop g t c =
     λ d s.
     let k = c.loop-i.invariant.3 d s in
     let a = at_loop c.args.lines.now c.loop-i.i c.args.to (omega arith) _ _ _ c.in-Loop.is k.0 k.1 in
-    loop-breaks v c.in-Loop.cell i c.in-Loop.bound a.first a.rest w c.in-Some-run-loop.broke (map f c.run-loop.new.cells) (c.in-Some-run-loop.ensures a.first a.spans-first)
+    loop-breaks v c.in-Loop.cell i c.in-Loop.bound a.first a.rest w c.in-Some-run-loop.broke (map f c.run-loop.new.cells) (c.in-Some-run-loop.ensures a.first a.spans_first)
     ∙ sym (ap (λ y. branching v y i w) a.is) ∙ k.2
 
 pub run-block-overflow-add-i-in-Loop : goal.run-block-overflow-add-i-in-Loop
 run-block-overflow-add-i-in-Loop g t c =
     let a = at_loop c.args.lines.now c.loop-i.i c.args.to (omega arith) _ _ _ c.in-Loop.is c.loop-i.invariant.2.0 c.loop-i.invariant.2.1 in
-    let l : c.in-Loop.partner < length c.args.lines.now = omega (arith, a.le-rest) in
+    let l : c.in-Loop.partner < length c.args.lines.now = omega (arith, a.le_rest) in
     search rules
 
 pub run-block-loop-i-smaller : goal.run-block-loop-i-smaller
 run-block-loop-i-smaller g t c =
     let a = at_loop c.args.lines.now c.loop-i.i c.args.to (omega arith) _ _ _ c.in-Loop.is c.loop-i.invariant.2.0 c.loop-i.invariant.2.1 in
-    omega (arith, a.le-first, a.le-rest)
+    omega (arith, a.le_first, a.le_rest)
 
 pub run-block-loop-i-preserved : goal.run-block-loop-i-preserved
 run-block-loop-i-preserved g t c =
@@ -162,15 +162,15 @@ run-block-loop-i-preserved g t c =
     let xs = c.args.lines.now in
     let w = map f c.loop-i.cells in
     let b = at_loop c.args.lines.now c.loop-i.i c.args.to (omega arith) _ _ _ c.in-Loop.is c.loop-i.invariant.2.0 c.loop-i.invariant.2.1 in (
-      omega (arith, b.le-first),
-      omega (arith, b.le-rest),
-      (b.rest, b.spans-rest),
+      omega (arith, b.le_first),
+      omega (arith, b.le_rest),
+      (b.rest, b.spans_rest),
       λ d s.
           let k = c.loop-i.invariant.3 d s in
           let a = at_loop c.args.lines.now c.loop-i.i c.args.to (omega arith) _ _ _ c.in-Loop.is k.0 k.1 in (
             a.rest,
-            a.spans-rest,
-            loop-goes v c.in-Loop.cell i c.in-Loop.bound a.first a.rest w c.in-Loop.partner (map f c.run-loop.new.cells) (spans_size xs (i + 1) c.in-Loop.partner a.first a.spans-first) (c.in-default-run-loop.ensures a.first a.spans-first)
+            a.spans_rest,
+            loop-goes v c.in-Loop.cell i c.in-Loop.bound a.first a.rest w c.in-Loop.partner (map f c.run-loop.new.cells) (spans_size xs (i + 1) c.in-Loop.partner a.first a.spans_first) (c.in-default-run-loop.ensures a.first a.spans_first)
                 ∙ sym (ap (λ y. branching v y i w) a.is) ∙ k.2,
           ),
     )
