@@ -40,17 +40,17 @@ module _ (covered : ℕ → Bool) where
 
   module _ (x : ℕ) (around : List ℕ) where
     -- inside a covered condition, at any level
-    reached-covered : (k : ℕ) → covered x ≡ true → Reached k (x ∷ around)
-    reached-covered k c y (h, _) = elim (at_least y (covered x) h) [ inl t ↦ inl t | inr f ↦ absurd (both_ways (covered x) f c) ]
+    reached_covered : (k : ℕ) → covered x ≡ true → Reached k (x ∷ around)
+    reached_covered k c y (h, _) = elim (at_least y (covered x) h) [ inl t ↦ inl t | inr f ↦ absurd (both_ways (covered x) f c) ]
 
-    reached-if : (b : Bool) (k : ℕ) → covered x ≡ b → Reached k around → Reached (level_in b k) (x ∷ around)
-    reached-if true k c s y h = reached-covered (k + 1) c y h
-    reached-if false k c s y (_, h) = s y h
+    reached_if : (b : Bool) (k : ℕ) → covered x ≡ b → Reached k around → Reached (level_in b k) (x ∷ around)
+    reached_if true k c s y h = reached_covered (k + 1) c y h
+    reached_if false k c s y (_, h) = s y h
 
-    reached-loop : (b : Bool) (k : ℕ) → loop_covered covered k x ≡ b → Reached k around → Reached (level_in b k) (x ∷ around)
-    reached-loop true zero c s y h = reached-covered 1 c y h
-    reached-loop true (suc k) c s y (_, h) = elim (s y h) [ inl t ↦ inl t | inr z ↦ absurd (omega arith) ]
-    reached-loop false k c s y (_, h) = s y h
+    reached_loop : (b : Bool) (k : ℕ) → loop_covered covered k x ≡ b → Reached k around → Reached (level_in b k) (x ∷ around)
+    reached_loop true zero c s y h = reached_covered 1 c y h
+    reached_loop true (suc k) c s y (_, h) = elim (s y h) [ inl t ↦ inl t | inr z ↦ absurd (omega arith) ]
+    reached_loop false k c s y (_, h) = s y h
 
   -- an open loop's cell is not covered
   open_loop : (k x : ℕ) → loop_covered covered k x ≡ false → covered x ≡ false
@@ -96,7 +96,7 @@ module _ (covered : ℕ → Bool) where
   tight_steps (choose x p q r) k d l i around s (f, g, h) =
       let b = covered x in
       let own = level_in b k in
-      let inside = reached-if x around b k refl s in
+      let inside = reached_if x around b k refl s in
       let else = l + 1 + size_of p in
       let end = else + 1 + size_of q in
       let ps = steps_of covered own d (l + 1) (i + 1) p in
@@ -122,7 +122,7 @@ module _ (covered : ℕ → Bool) where
         tight_loop b own d,
         (
           tight_test b k own d x n (m + 1) l refl,
-          All-append (Tight covered) ps (loop_back b own n (i + 1) ∷ (es ++ rs)) (tight_steps p own (loops_in b d) (l + 1) (i + 2) (x ∷ around) (reached-loop x around b k refl s) f)
+          All-append (Tight covered) ps (loop_back b own n (i + 1) ∷ (es ++ rs)) (tight_steps p own (loops_in b d) (l + 1) (i + 2) (x ∷ around) (reached_loop x around b k refl s) f)
               (tight_back b own n (i + 1), All-append (Tight covered) es rs (tight_end b own x l) (tight_steps r k d (end + 1) j around s h)),
         ),
       )

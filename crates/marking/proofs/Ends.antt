@@ -15,14 +15,14 @@ module _ {M : Type 0} {join : M → M → M} {none : M} {rank : M → ℕ} {heig
 
   -- a pass that no condition stands around
   module _ (ts us : List M) (w : M) (r : Bool) (bare : w ≡ none) (d : Passed join none rank xs 0 n w ts us r) (low : Under ts) where
-    from-rules : (c : Code) (m : ℕ → M) → Rules join own m marks c → FollowsUnder join m w c
-    from-rules c m k = from_conditions l m w [] (λ y _. subst (AtLeast join y) (sym bare) (above_none l y)) c k.follows
+    from_rules : (c : Code) (m : ℕ → M) → Rules join own m marks c → FollowsUnder join m w c
+    from_rules c m k = from_conditions l m w [] (λ y _. subst (AtLeast join y) (sym bare) (above_none l y)) c k.follows
 
-    pub pass-under : Under us
-    pass-under c h m k = d.below c h m (from-rules c m k) (low c h m k)
+    pub pass_under : Under us
+    pass_under c h m k = d.below c h m (from_rules c m k) (low c h m k)
 
-    pub least-end : r ≡ false → Owns join own (marking none ts) marks → (c : Code) → Spans xs 0 n c → Least join own (marking none us) marks c
-    least-end e o c h =
+    pub least_end : r ≡ false → Owns join own (marking none ts) marks → (c : Code) → Spans xs 0 n c → Least join own (marking none us) marks c
+    least_end e o c h =
         subst (λ y. Least join own (marking none y) marks c) (sym (d.moved.still e))
         record {
           meets = record { owns = o; follows = to_conditions l (marking none ts) w [] tt c (d.meets e c h) };

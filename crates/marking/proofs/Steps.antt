@@ -9,7 +9,7 @@ use Rattle.sheet.proofs.Heads.{spans_none, at_work, at_literal, at_if, at_loop}
 use Rattle.marking.specs.Rules.{AtLeast}
 use Rattle.marking.specs.Spread.{marking, Below, FollowsUnder, Moved, Passed}
 use Rattle.marking.proofs.Order.{Laws, above_trans, above_left, above_right, above_join, above_joins}
-use Rattle.marking.proofs.Tables.{moved_not, moved_then, raised-moved, raised_below}
+use Rattle.marking.proofs.Tables.{moved_not, moved_then, raised_moved, raised_below}
 use Rattle.marking.proofs.Contexts.{follows_less}
 
 -- what a pass says of whether a mark rose, with the lines before it
@@ -30,7 +30,7 @@ pub record Raised {M : Type 0} (join : M → M → M) (none : M) (ts us : List M
 
 module _ {M : Type 0} {join : M → M → M} {none : M} {rank : M → ℕ} {height : ℕ} (l : Laws join none rank height) where
   pub raise_moved : (ts us : List M) (t : ℕ) (v : M) (r : Bool) → Raised join none ts us t v r → Moved join none rank ts us r
-  raise_moved ts us t v r d = subst (λ y. Moved join none rank ts y r) (sym d.after) (raised-moved l ts t v d.inside r d.rises d.stays)
+  raise_moved ts us t v r d = subst (λ y. Moved join none rank ts y r) (sym d.after) (raised_moved l ts t v d.inside r d.rises d.stays)
 
   pub raise_below : (ts us : List M) (t : ℕ) (v : M) (r : Bool) → Raised join none ts us t v r → (m : ℕ → M) → AtLeast join (m t) v → Below join none ts m → Below join none us m
   raise_below ts us t v r d m p b = subst (λ y. Below join none y m) (sym d.after) (raised_below l ts t v d.inside m p b)

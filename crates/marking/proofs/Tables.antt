@@ -45,30 +45,30 @@ module _ {M : Type 0} {join : M → M → M} {none : M} {rank : M → ℕ} {heig
     abbrev raised : List M
     raised = set ts i (join (marking none ts i) v)
 
-    same-raised : marking none raised i ≡ join (marking none ts i) v
-    same-raised = get_or-set_same ts i (join (marking none ts i) v) none h
+    same_raised : marking none raised i ≡ join (marking none ts i) v
+    same_raised = get_or-set_same ts i (join (marking none ts i) v) none h
 
-    pub raised-has : AtLeast join (marking none raised i) v
-    raised-has = subst (λ y. AtLeast join y v) (sym same-raised) (above_right l (marking none ts i) v)
+    pub raised_has : AtLeast join (marking none raised i) v
+    raised_has = subst (λ y. AtLeast join y v) (sym same_raised) (above_right l (marking none ts i) v)
 
     pub raised_below : (m : ℕ → M) → AtLeast join (m i) v → Below join none ts m → Below join none raised m
     raised_below m p b x =
         elim (cases_eq x i) [
           | inl e ↦
               subst (λ y. AtLeast join (m y) (marking none raised y)) (sym e)
-              (subst (AtLeast join (m i)) (sym same-raised) (above_join l (m i) (marking none ts i) v (b i) p))
+              (subst (AtLeast join (m i)) (sym same_raised) (above_join l (m i) (marking none ts i) v (b i) p))
           | inr ne ↦ subst (AtLeast join (m x)) (sym (get_or-set_other ts i x (join (marking none ts i) v) none ne)) (b x)
         ]
 
-    pub raised-moved : (r : Bool) → (r ≡ true → AtLeast join (marking none ts i) v → ⊥) → (r ≡ false → AtLeast join (marking none ts i) v) → Goes ts raised r
-    raised-moved r rises stays =
+    pub raised_moved : (r : Bool) → (r ≡ true → AtLeast join (marking none ts i) v → ⊥) → (r ≡ false → AtLeast join (marking none ts i) v) → Goes ts raised r
+    raised_moved r rises stays =
         record {
           long = length-set ts i (join (marking none ts i) v);
           grown = λ x.
               elim (cases_eq x i) [
                 | inl e ↦
                     subst (λ y. AtLeast join (marking none raised y) (marking none ts y)) (sym e)
-                    (subst (λ y. AtLeast join y (marking none ts i)) (sym same-raised) (above_left l (marking none ts i) v))
+                    (subst (λ y. AtLeast join y (marking none ts i)) (sym same_raised) (above_left l (marking none ts i) v))
                 | inr ne ↦
                     subst (λ y. AtLeast join y (marking none ts x)) (sym (get_or-set_other ts i x (join (marking none ts i) v) none ne)) (l.idem (marking none ts x))
               ];

@@ -12,9 +12,9 @@ use Rattle.protocol.specs.declared.calls.Call.{Call}
 
 module _ {M : Type 0} (t : Terms) (w : Watching M) (cs : List Call) (i : ℕ) where
   module _ (d : Call) (s s' : Stand M) (h : i < length cs) (on : s' ≡ after t w s (get_or cs i d)) where
-    pub one-listed : (xs : List Answer) (a : Answer) → i < length xs → a ≡ answer t w s (path_score t s.run) (get_or cs i d) →
+    pub one_listed : (xs : List Answer) (a : Answer) → i < length xs → a ≡ answer t w s (path_score t s.run) (get_or cs i d) →
         take (i + 1) (set xs i a) ++ answers_of (tells t w s' (drop (i + 1) cs)) ≡ take i xs ++ answers_of (tells t w s (drop i cs))
-    one-listed xs a k e =
+    one_listed xs a k e =
         let rest = drop (i + 1) cs in
         ap (λ z. z ++ answers_of (tells t w s' rest)) (take_more_set xs i a k)
         ∙ append_assoc (take i xs) (a ∷ []) (answers_of (tells t w s' rest))
@@ -27,8 +27,8 @@ module _ {M : Type 0} (t : Terms) (w : Watching M) (cs : List Call) (i : ℕ) wh
 
   -- after the last call
   module _ (s : Stand M) (h : length cs ≤ i) where
-    pub all-ended : ends t w s (drop i cs) ≡ s
-    all-ended = ap (ends t w s) (drop_all i cs h)
+    pub all_ended : ends t w s (drop i cs) ≡ s
+    all_ended = ap (ends t w s) (drop_all i cs h)
 
     pub all_listed : (xs : List Answer) → take i xs ++ answers_of (tells t w s (drop i cs)) ≡ take i xs
     all_listed xs = ap (λ z. take i xs ++ answers_of (tells t w s z)) (drop_all i cs h) ∙ append-nil (take i xs)

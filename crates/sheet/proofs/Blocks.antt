@@ -30,16 +30,16 @@ module _ (bs : List ℕ) (base count : ℕ) where
     pub second : Code
     pub rest : Code
     pub is : c ≡ choose (line_byte bs base i 1) first second rest
-    pub begins-first : Begins bs base count (i + 1) first
-    pub begins-second : Begins bs base count (i + 1 + size_of first + 1) second
-    pub begins-rest : Begins bs base count (i + 1 + size_of first + 1 + size_of second + 1) rest
+    pub begins_first : Begins bs base count (i + 1) first
+    pub begins_second : Begins bs base count (i + 1 + size_of first + 1) second
+    pub begins_rest : Begins bs base count (i + 1 + size_of first + 1 + size_of second + 1) rest
 
   pub record HasLoop (i : ℕ) (c : Code) : Type 0 where
     pub first : Code
     pub rest : Code
     pub is : c ≡ repeat (line_byte bs base i 1) (line_byte bs base i 2) first rest
-    pub begins-first : Begins bs base count (i + 1) first
-    pub begins-rest : Begins bs base count (i + 1 + size_of first + 1) rest
+    pub begins_first : Begins bs base count (i + 1) first
+    pub begins_rest : Begins bs base count (i + 1 + size_of first + 1) rest
 
   -- the block c ends where the block r, further on, does
   ends : (i j : ℕ) (c r : Code) → i + size_of c ≡ j + size_of r → Begins bs base count i c → Here bs (base + 8 * j) (code_bytes r) → Begins bs base count j r
@@ -88,24 +88,24 @@ module _ (bs : List ℕ) (base count : ℕ) where
   at₄ i u h = let e : base + 8 * i + 4 ≡ base + 8 * i + 1 + 1 + 1 + 1 = omega arith in ap (byte_at bs) e ∙ h
 
   module _ (i : ℕ) (more : i < count) where
-    pub has-work : (c : Code) → Begins bs base count i c → byte_at bs (base + 8 * i) ≡ 1 → HasWork i c
-    has-work stop b k = absurd (⊎_elim (λ h. omega arith) (λ h. omega arith) (stopped i more b))
-    has-work (work t o x y r) b k =
+    pub has_work : (c : Code) → Begins bs base count i c → byte_at bs (base + 8 * i) ≡ 1 → HasWork i c
+    has_work stop b k = absurd (⊎_elim (λ h. omega arith) (λ h. omega arith) (stopped i more b))
+    has_work (work t o x y r) b k =
         let h = b.here in
         let e₁ = h.1.0 in
         let e₂ = at₂ i o h.1.1.0 in
         let e₃ = at₃ i x h.1.1.1.0 in
         let e₄ = at₄ i y h.1.1.1.1.0 in
         record { rest = r; is = cc; begins = ends i (i + 1) (work t o x y r) r (omega arith) b (next i 1 t o x y 0 0 0 (code_bytes r) h) }
-    has-work (literal t n r) b k = let h = b.here.0 in absurd (omega arith)
-    has-work (choose x p q r) b k = let h = b.here.0 in absurd (omega arith)
-    has-work (repeat x n p r) b k = let h = b.here.0 in absurd (omega arith)
+    has_work (literal t n r) b k = let h = b.here.0 in absurd (omega arith)
+    has_work (choose x p q r) b k = let h = b.here.0 in absurd (omega arith)
+    has_work (repeat x n p r) b k = let h = b.here.0 in absurd (omega arith)
 
-    pub has-literal : (v : ℕ) → v ≡ line_byte bs base i 4 + 256 * line_byte bs base i 5 + 65536 * line_byte bs base i 6 + 16777216 * line_byte bs base i 7 →
+    pub has_literal : (v : ℕ) → v ≡ line_byte bs base i 4 + 256 * line_byte bs base i 5 + 65536 * line_byte bs base i 6 + 16777216 * line_byte bs base i 7 →
         (c : Code) → Begins bs base count i c → byte_at bs (base + 8 * i) ≡ 2 → HasLiteral i v c
-    has-literal v w stop b k = absurd (⊎_elim (λ h. omega arith) (λ h. omega arith) (stopped i more b))
-    has-literal v w (work t o x y r) b k = let h = b.here.0 in absurd (omega arith)
-    has-literal v w (literal t n r) b k =
+    has_literal v w stop b k = absurd (⊎_elim (λ h. omega arith) (λ h. omega arith) (stopped i more b))
+    has_literal v w (work t o x y r) b k = let h = b.here.0 in absurd (omega arith)
+    has_literal v w (literal t n r) b k =
         let h = b.here in
         let e₁ = h.1.0 in
         let p = base + 8 * i in
@@ -122,14 +122,14 @@ module _ (bs : List ℕ) (base count : ℕ) where
         spelled : (n v b₀ b₁ b₂ b₃ : ℕ) → b₀ ≡ n % 256 → b₁ ≡ n / 256 % 256 → b₂ ≡ n / 65536 % 256 → b₃ ≡ n / 16777216 →
             v ≡ b₀ + 256 * b₁ + 65536 * b₂ + 16777216 * b₃ → v ≡ n
         spelled n v b₀ b₁ b₂ b₃ e₀ e₁ e₂ e₃ e = omega arith
-    has-literal v w (choose x p q r) b k = let h = b.here.0 in absurd (omega arith)
-    has-literal v w (repeat x n p r) b k = let h = b.here.0 in absurd (omega arith)
+    has_literal v w (choose x p q r) b k = let h = b.here.0 in absurd (omega arith)
+    has_literal v w (repeat x n p r) b k = let h = b.here.0 in absurd (omega arith)
 
-    pub has-if : (c : Code) → Begins bs base count i c → byte_at bs (base + 8 * i) ≡ 3 → HasIf i c
-    has-if stop b k = absurd (⊎_elim (λ h. omega arith) (λ h. omega arith) (stopped i more b))
-    has-if (work t o x y r) b k = let h = b.here.0 in absurd (omega arith)
-    has-if (literal t n r) b k = let h = b.here.0 in absurd (omega arith)
-    has-if (choose x p q r) b k =
+    pub has_if : (c : Code) → Begins bs base count i c → byte_at bs (base + 8 * i) ≡ 3 → HasIf i c
+    has_if stop b k = absurd (⊎_elim (λ h. omega arith) (λ h. omega arith) (stopped i more b))
+    has_if (work t o x y r) b k = let h = b.here.0 in absurd (omega arith)
+    has_if (literal t n r) b k = let h = b.here.0 in absurd (omega arith)
+    has_if (choose x p q r) b k =
         let h = b.here in
         let e₁ = h.1.0 in
         let w = b.within in
@@ -145,18 +145,18 @@ module _ (bs : List ℕ) (base count : ℕ) where
           second = q;
           rest = r;
           is = cc;
-          begins-first = before (i + 1) e p s₁.0 refl (omega arith) (inl s₁.1.0);
-          begins-second = before (e + 1) z q s₃.0 refl (omega arith) (inr s₃.1.0);
-          begins-rest = ends i (z + 1) (choose x p q r) r (omega arith) b s₄;
+          begins_first = before (i + 1) e p s₁.0 refl (omega arith) (inl s₁.1.0);
+          begins_second = before (e + 1) z q s₃.0 refl (omega arith) (inr s₃.1.0);
+          begins_rest = ends i (z + 1) (choose x p q r) r (omega arith) b s₄;
         }
-    has-if (repeat x n p r) b k = let h = b.here.0 in absurd (omega arith)
+    has_if (repeat x n p r) b k = let h = b.here.0 in absurd (omega arith)
 
-    pub has-loop : (c : Code) → Begins bs base count i c → byte_at bs (base + 8 * i) ≡ 6 → HasLoop i c
-    has-loop stop b k = absurd (⊎_elim (λ h. omega arith) (λ h. omega arith) (stopped i more b))
-    has-loop (work t o x y r) b k = let h = b.here.0 in absurd (omega arith)
-    has-loop (literal t n r) b k = let h = b.here.0 in absurd (omega arith)
-    has-loop (choose x p q r) b k = let h = b.here.0 in absurd (omega arith)
-    has-loop (repeat x n p r) b k =
+    pub has_loop : (c : Code) → Begins bs base count i c → byte_at bs (base + 8 * i) ≡ 6 → HasLoop i c
+    has_loop stop b k = absurd (⊎_elim (λ h. omega arith) (λ h. omega arith) (stopped i more b))
+    has_loop (work t o x y r) b k = let h = b.here.0 in absurd (omega arith)
+    has_loop (literal t n r) b k = let h = b.here.0 in absurd (omega arith)
+    has_loop (choose x p q r) b k = let h = b.here.0 in absurd (omega arith)
+    has_loop (repeat x n p r) b k =
         let h = b.here in
         let e₁ = h.1.0 in
         let e₂ = at₂ i n h.1.1.0 in
@@ -169,18 +169,18 @@ module _ (bs : List ℕ) (base count : ℕ) where
           first = p;
           rest = r;
           is = cc;
-          begins-first = before (i + 1) z p s₁.0 refl (omega arith) (inr s₁.1.0);
-          begins-rest = ends i (z + 1) (repeat x n p r) r (omega arith) b s₂;
+          begins_first = before (i + 1) z p s₁.0 refl (omega arith) (inr s₁.1.0);
+          begins_rest = ends i (z + 1) (repeat x n p r) r (omega arith) b s₂;
         }
 
     -- a line of no other kind closes the block
-    pub has-none : (c : Code) → Begins bs base count i c → (byte_at bs (base + 8 * i) ≡ 1 → ⊥) → (byte_at bs (base + 8 * i) ≡ 2 → ⊥) →
+    pub has_none : (c : Code) → Begins bs base count i c → (byte_at bs (base + 8 * i) ≡ 1 → ⊥) → (byte_at bs (base + 8 * i) ≡ 2 → ⊥) →
         (byte_at bs (base + 8 * i) ≡ 3 → ⊥) → (byte_at bs (base + 8 * i) ≡ 6 → ⊥) → c ≡ stop
-    has-none stop b n₁ n₂ n₃ n₆ = refl
-    has-none (work t o x y r) b n₁ n₂ n₃ n₆ = absurd (n₁ b.here.0)
-    has-none (literal t n r) b n₁ n₂ n₃ n₆ = absurd (n₂ b.here.0)
-    has-none (choose x p q r) b n₁ n₂ n₃ n₆ = absurd (n₃ b.here.0)
-    has-none (repeat x n p r) b n₁ n₂ n₃ n₆ = absurd (n₆ b.here.0)
+    has_none stop b n₁ n₂ n₃ n₆ = refl
+    has_none (work t o x y r) b n₁ n₂ n₃ n₆ = absurd (n₁ b.here.0)
+    has_none (literal t n r) b n₁ n₂ n₃ n₆ = absurd (n₂ b.here.0)
+    has_none (choose x p q r) b n₁ n₂ n₃ n₆ = absurd (n₃ b.here.0)
+    has_none (repeat x n p r) b n₁ n₂ n₃ n₆ = absurd (n₆ b.here.0)
 
   -- at the end of the lines only the empty block begins
   pub at_end : (i : ℕ) → count ≤ i → (c : Code) → Begins bs base count i c → c ≡ stop

@@ -67,35 +67,35 @@ module _ (cells : ℕ) (bs : List ℕ) where
 
   -- a line whose bytes have no fault is a line of the layout
   pub data LineIs (at : ℕ) : Type 0 where
-    is-work : (t o a b : ℕ) → t < cells → o ≤ 7 → a < cells → b < cells → byte_at bs at ≡ 1 → Here bs at (work_bytes t o a b) → LineIs at
-    is-literal : (t n : ℕ) → t < cells → n < 2 ^ 32 → byte_at bs at ≡ 2 → Here bs at (literal_bytes t n) → LineIs at
-    is-if : (c : ℕ) → c < cells → byte_at bs at ≡ 3 → Here bs at (other_bytes 3 c 0) → LineIs at
-    is-else : byte_at bs at ≡ 4 → Here bs at (other_bytes 4 0 0) → LineIs at
-    is-end : byte_at bs at ≡ 5 → Here bs at (other_bytes 5 0 0) → LineIs at
+    is_work : (t o a b : ℕ) → t < cells → o ≤ 7 → a < cells → b < cells → byte_at bs at ≡ 1 → Here bs at (work_bytes t o a b) → LineIs at
+    is_literal : (t n : ℕ) → t < cells → n < 2 ^ 32 → byte_at bs at ≡ 2 → Here bs at (literal_bytes t n) → LineIs at
+    is_if : (c : ℕ) → c < cells → byte_at bs at ≡ 3 → Here bs at (other_bytes 3 c 0) → LineIs at
+    is_else : byte_at bs at ≡ 4 → Here bs at (other_bytes 4 0 0) → LineIs at
+    is_end : byte_at bs at ≡ 5 → Here bs at (other_bytes 5 0 0) → LineIs at
     is_loop : (c n : ℕ) → c < cells → 1 ≤ n → n ≤ 255 → byte_at bs at ≡ 6 → Here bs at (other_bytes 6 c n) → LineIs at
 
   module _ (at : ℕ) (bytes : Bytes bs) where
-    line-work : byte_at bs at ≡ 1 → bytes_fault cells bs at (rules_of 1) ≡ None → LineIs at
-    line-work e h =
+    line_work : byte_at bs at ≡ 1 → bytes_fault cells bs at (rules_of 1) ≡ None → LineIs at
+    line_work e h =
         let u = (obeyed at (rules_of 1) h).1 in
-        is-work _ _ _ _ u.0 u.1.0 u.1.1.0 u.1.1.1.0 e (e, (refl, (refl, (refl, (refl, u.1.1.1.1)))))
+        is_work _ _ _ _ u.0 u.1.0 u.1.1.0 u.1.1.1.0 e (e, (refl, (refl, (refl, (refl, u.1.1.1.1)))))
 
-    line-literal : byte_at bs at ≡ 2 → bytes_fault cells bs at (rules_of 2) ≡ None → LineIs at
-    line-literal e h =
+    line_literal : byte_at bs at ≡ 2 → bytes_fault cells bs at (rules_of 2) ≡ None → LineIs at
+    line_literal e h =
         let u = (obeyed at (rules_of 2) h).1 in
         let p = at + 1 + 1 + 1 + 1 in
         let l₀ = bytes p in
         let l₁ = bytes (p + 1) in
         let l₂ = bytes (p + 1 + 1) in
         let l₃ = bytes (p + 1 + 1 + 1) in
-        is-literal _ (byte_at bs p + 256 * byte_at bs (p + 1) + 65536 * byte_at bs (p + 1 + 1) + 16777216 * byte_at bs (p + 1 + 1 + 1)) u.0 (omega arith) e
+        is_literal _ (byte_at bs p + 256 * byte_at bs (p + 1) + 65536 * byte_at bs (p + 1 + 1) + 16777216 * byte_at bs (p + 1 + 1 + 1)) u.0 (omega arith) e
         (e, (refl, (u.1.0, (u.1.1.0, (omega arith, (omega arith, (omega arith, (omega arith, tt))))))))
 
-    line-if : byte_at bs at ≡ 3 → bytes_fault cells bs at (rules_of 3) ≡ None → LineIs at
-    line-if e h = let u = (obeyed at (rules_of 3) h).1 in is-if _ u.0 e (e, (refl, u.1))
+    line_if : byte_at bs at ≡ 3 → bytes_fault cells bs at (rules_of 3) ≡ None → LineIs at
+    line_if e h = let u = (obeyed at (rules_of 3) h).1 in is_if _ u.0 e (e, (refl, u.1))
 
-    line-loop : byte_at bs at ≡ 6 → bytes_fault cells bs at (rules_of 6) ≡ None → LineIs at
-    line-loop e h =
+    line_loop : byte_at bs at ≡ 6 → bytes_fault cells bs at (rules_of 6) ≡ None → LineIs at
+    line_loop e h =
         let u = (obeyed at (rules_of 6) h).1 in
         let l = bytes (at + 1 + 1) in
         is_loop _ _ u.0 u.1.0 (omega arith) e (e, (refl, (refl, u.1.1)))
@@ -103,32 +103,32 @@ module _ (cells : ℕ) (bs : List ℕ) where
     plain : (kind : ℕ) → byte_at bs at ≡ kind → bytes_fault cells bs at (rules_of 4) ≡ None → Here bs at (other_bytes kind 0 0)
     plain kind e h = (e, (obeyed at (rules_of 4) h).1)
 
-    pub line-is : bytes_fault cells bs at (rules_of (byte_at bs at)) ≡ None → LineIs at
-    line-is h = go₁ (eqb k 1) refl h
+    pub line_is : bytes_fault cells bs at (rules_of (byte_at bs at)) ≡ None → LineIs at
+    line_is h = go₁ (eqb k 1) refl h
       where
         k : ℕ
         k = byte_at bs at
 
         go₅ : (t : Bool) → eqb (byte_at bs at) 4 ≡ t → (byte_at bs at ≡ 1 → ⊥) → (byte_at bs at ≡ 2 → ⊥) → (byte_at bs at ≡ 3 → ⊥) → (byte_at bs at ≡ 6 → ⊥) → bytes_fault cells bs at (rules_of 4) ≡ None → LineIs at
-        go₅ true e n₁ n₂ n₃ n₆ h = let is = eqb-true (byte_at bs at) 4 e in is-else is (plain 4 is h)
+        go₅ true e n₁ n₂ n₃ n₆ h = let is = eqb-true (byte_at bs at) 4 e in is_else is (plain 4 is h)
         go₅ false e n₁ n₂ n₃ n₆ h =
             let n₄ = eqb-false (byte_at bs at) 4 e in
             let r = (obeyed at (rules_of 4) h).0 in
             let is : byte_at bs at ≡ 5 = omega arith in
-            is-end is (plain 5 is h)
+            is_end is (plain 5 is h)
 
         go₄ : (t : Bool) → eqb (byte_at bs at) 6 ≡ t → (byte_at bs at ≡ 1 → ⊥) → (byte_at bs at ≡ 2 → ⊥) → (byte_at bs at ≡ 3 → ⊥) → bytes_fault cells bs at (cond t (rules_of 6) (rules_of 4)) ≡ None → LineIs at
-        go₄ true e n₁ n₂ n₃ h = line-loop (eqb-true (byte_at bs at) 6 e) h
+        go₄ true e n₁ n₂ n₃ h = line_loop (eqb-true (byte_at bs at) 6 e) h
         go₄ false e n₁ n₂ n₃ h = go₅ (eqb (byte_at bs at) 4) refl n₁ n₂ n₃ (eqb-false (byte_at bs at) 6 e) h
 
         go₃ : (t : Bool) → eqb (byte_at bs at) 3 ≡ t → (byte_at bs at ≡ 1 → ⊥) → (byte_at bs at ≡ 2 → ⊥) → bytes_fault cells bs at (cond t (rules_of 3) (cond (eqb (byte_at bs at) 6) (rules_of 6) (rules_of 4))) ≡ None → LineIs at
-        go₃ true e n₁ n₂ h = line-if (eqb-true (byte_at bs at) 3 e) h
+        go₃ true e n₁ n₂ h = line_if (eqb-true (byte_at bs at) 3 e) h
         go₃ false e n₁ n₂ h = go₄ (eqb (byte_at bs at) 6) refl n₁ n₂ (eqb-false (byte_at bs at) 3 e) h
 
         go₂ : (t : Bool) → eqb (byte_at bs at) 2 ≡ t → (byte_at bs at ≡ 1 → ⊥) → bytes_fault cells bs at (cond t (rules_of 2) (cond (eqb (byte_at bs at) 3) (rules_of 3) (cond (eqb (byte_at bs at) 6) (rules_of 6) (rules_of 4)))) ≡ None → LineIs at
-        go₂ true e n₁ h = line-literal (eqb-true (byte_at bs at) 2 e) h
+        go₂ true e n₁ h = line_literal (eqb-true (byte_at bs at) 2 e) h
         go₂ false e n₁ h = go₃ (eqb (byte_at bs at) 3) refl n₁ (eqb-false (byte_at bs at) 2 e) h
 
         go₁ : (t : Bool) → eqb (byte_at bs at) 1 ≡ t → bytes_fault cells bs at (cond t (rules_of 1) (cond (eqb (byte_at bs at) 2) (rules_of 2) (cond (eqb (byte_at bs at) 3) (rules_of 3) (cond (eqb (byte_at bs at) 6) (rules_of 6) (rules_of 4))))) ≡ None → LineIs at
-        go₁ true e h = line-work (eqb-true (byte_at bs at) 1 e) h
+        go₁ true e h = line_work (eqb-true (byte_at bs at) 1 e) h
         go₁ false e h = go₂ (eqb (byte_at bs at) 2) refl (eqb-false (byte_at bs at) 1 e) h

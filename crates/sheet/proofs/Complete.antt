@@ -10,7 +10,7 @@ use Rattle.sheet.specs.declared.faults.ReadFault.{ReadFault}
 use Rattle.sheet.specs.declared.nesting.Open.{Open}
 use Rattle.sheet.specs.declared.nesting.Open.TheVariants.{First, Second, Body}
 use Rattle.sheet.proofs.Stands.{Stands, stands_split, stands_moved, stands_self}
-use Rattle.sheet.proofs.Stepping.{passed, line-said}
+use Rattle.sheet.proofs.Stepping.{passed, line_said}
 use Rattle.sheet.proofs.Bytes.{Obey, faultless}
 use Rattle.sheet.proofs.Sound.{code_length, word_of}
 
@@ -46,13 +46,13 @@ module _ (cells : ℕ) (bs : List ℕ) where
   code_passes (work t o a b r) at n os h k =
       let s = stands_split 0 bs at (work_bytes t o a b) (code_bytes r) h in
       let e : at + 8 + 8 * size_of r ≡ at + 8 * (1 + size_of r) = omega arith in
-      line-said cells bs at os (1 + size_of r + n) (size_of r + n) (omega arith) os
+      line_said cells bs at os (1 + size_of r + n) (size_of r + n) (omega arith) os
       (said at 1 (t ∷ o ∷ a ∷ b ∷ 0 ∷ 0 ∷ 0 ∷ []) os os s.0 (refl, (lt-ltb t cells k.0, (le-leb o 7 k.1, (lt-ltb a cells k.2, (lt-ltb b cells k.3, (refl, (refl, (refl, tt)))))))) refl)
       ∙ code_passes r (at + 8) n os s.1 k.4 ∙ ap (λ y. lines_fault cells bs y n os) e
   code_passes (literal t v r) at n os h k =
       let s = stands_split 0 bs at (literal_bytes t v) (code_bytes r) h in
       let e : at + 8 + 8 * size_of r ≡ at + 8 * (1 + size_of r) = omega arith in
-      line-said cells bs at os (1 + size_of r + n) (size_of r + n) (omega arith) os
+      line_said cells bs at os (1 + size_of r + n) (size_of r + n) (omega arith) os
       (said at 2 (t ∷ 0 ∷ 0 ∷ v % 256 ∷ v / 256 % 256 ∷ v / 65536 % 256 ∷ v / 16777216 ∷ []) os os s.0 (refl, (lt-ltb t cells k.0, (refl, (refl, (refl, (refl, (refl, (refl, tt)))))))) refl)
       ∙ code_passes r (at + 8) n os s.1 k.2 ∙ ap (λ y. lines_fault cells bs y n os) e
   code_passes (choose x p q r) at n os h k =
@@ -67,13 +67,13 @@ module _ (cells : ℕ) (bs : List ℕ) where
       let n₂ = size_of q + suc n₃ in
       let n₁ = size_of p + suc n₂ in
       let e : a₂ + 8 + 8 * size_of r ≡ at + 8 * (3 + size_of p + size_of q + size_of r) = omega arith in
-      line-said cells bs at os (3 + size_of p + size_of q + size_of r + n) n₁ (omega arith) (First ∷ os)
+      line_said cells bs at os (3 + size_of p + size_of q + size_of r + n) n₁ (omega arith) (First ∷ os)
       (said at 3 (x ∷ 0 ∷ 0 ∷ 0 ∷ 0 ∷ 0 ∷ 0 ∷ []) os (First ∷ os) s₀.0 (refl, (lt-ltb x cells k.0, (refl, (refl, (refl, (refl, (refl, (refl, tt)))))))) (opens First os (omega arith)))
       ∙ code_passes p (at + 8) (suc n₂) (First ∷ os) s₁.0 (deeper os p k.2)
-      ∙ line-said cells bs a₁ (First ∷ os) (suc n₂) n₂ refl (Second ∷ os)
+      ∙ line_said cells bs a₁ (First ∷ os) (suc n₂) n₂ refl (Second ∷ os)
       (said a₁ 4 (0 ∷ 0 ∷ 0 ∷ 0 ∷ 0 ∷ 0 ∷ 0 ∷ []) (First ∷ os) (Second ∷ os) s₂.0 (refl, (refl, (refl, (refl, (refl, (refl, (refl, (refl, tt)))))))) refl)
       ∙ code_passes q (a₁ + 8) (suc n₃) (Second ∷ os) s₃.0 (deeper os q k.3)
-      ∙ line-said cells bs a₂ (Second ∷ os) (suc n₃) n₃ refl os
+      ∙ line_said cells bs a₂ (Second ∷ os) (suc n₃) n₃ refl os
       (said a₂ 5 (0 ∷ 0 ∷ 0 ∷ 0 ∷ 0 ∷ 0 ∷ 0 ∷ []) (Second ∷ os) os s₄.0 (refl, (refl, (refl, (refl, (refl, (refl, (refl, (refl, tt)))))))) refl)
       ∙ code_passes r (a₂ + 8) n os s₄.1 k.4 ∙ ap (λ y. lines_fault cells bs y n os) e
   code_passes (repeat x v p r) at n os h k =
@@ -84,10 +84,10 @@ module _ (cells : ℕ) (bs : List ℕ) where
       let n₂ = size_of r + n in
       let n₁ = size_of p + suc n₂ in
       let e : a₁ + 8 + 8 * size_of r ≡ at + 8 * (2 + size_of p + size_of r) = omega arith in
-      line-said cells bs at os (2 + size_of p + size_of r + n) n₁ (omega arith) (Body ∷ os)
+      line_said cells bs at os (2 + size_of p + size_of r + n) n₁ (omega arith) (Body ∷ os)
       (said at 6 (x ∷ v ∷ 0 ∷ 0 ∷ 0 ∷ 0 ∷ 0 ∷ []) os (Body ∷ os) s₀.0 (refl, (lt-ltb x cells k.0, (le-leb 1 v k.1, (refl, (refl, (refl, (refl, (refl, tt)))))))) (opens Body os (omega arith)))
       ∙ code_passes p (at + 8) (suc n₂) (Body ∷ os) s₁.0 (deeper os p k.4)
-      ∙ line-said cells bs a₁ (Body ∷ os) (suc n₂) n₂ refl os
+      ∙ line_said cells bs a₁ (Body ∷ os) (suc n₂) n₂ refl os
       (said a₁ 5 (0 ∷ 0 ∷ 0 ∷ 0 ∷ 0 ∷ 0 ∷ 0 ∷ []) (Body ∷ os) os s₂.0 (refl, (refl, (refl, (refl, (refl, (refl, (refl, (refl, tt)))))))) refl)
       ∙ code_passes r (a₁ + 8) n os s₂.1 k.5 ∙ ap (λ y. lines_fault cells bs y n os) e
 

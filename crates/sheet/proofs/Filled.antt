@@ -8,7 +8,7 @@ use Rattle.sheet.specs.Filling.{Begins, FilledFrom, Onward, Stepped}
 use Rattle.sheet.specs.declared.lines.Line.{Line}
 use Rattle.sheet.specs.declared.lines.Line.TheVariants.{Work, Literal, If, Else, End, Loop}
 use Rattle.sheet.proofs.Heads.{spans_le}
-use Rattle.sheet.proofs.Blocks.{line_byte, HasWork, HasLiteral, HasIf, HasLoop, has-work, has-literal, has-if, has-loop, has-none, at_end}
+use Rattle.sheet.proofs.Blocks.{line_byte, HasWork, HasLiteral, HasIf, HasLoop, has_work, has_literal, has_if, has_loop, has_none, at_end}
 
 -- a write, read there and elsewhere
 pub wrote : (ts : List Line) (i : ℕ) (l : Line) → i < length ts → line_at (set ts i l) i ≡ l
@@ -102,23 +102,23 @@ module _ (bs : List ℕ) (base count : ℕ) where
               };
         }
 
-    pub stepped-work : byte_at bs (base + 8 * i) ≡ 1 →
+    pub stepped_work : byte_at bs (base + 8 * i) ≡ 1 →
         Stepped bs base count i ts (set ts i (Work (line_byte bs base i 1) (line_byte bs base i 2) (line_byte bs base i 3) (line_byte bs base i 4))) (i + 1)
-    stepped-work k = stepped_line _ (λ c b.
-        let v = has-work bs base count i more c b k in
+    stepped_work k = stepped_line _ (λ c b.
+        let v = has_work bs base count i more c b k in
         (v.rest, v.begins, ap size_of v.is, λ xs j e h. subst (λ y. Spans xs i j y) (sym v.is) (e, h)))
 
-    pub stepped-literal : (n : ℕ) → n ≡ line_byte bs base i 4 + 256 * line_byte bs base i 5 + 65536 * line_byte bs base i 6 + 16777216 * line_byte bs base i 7 →
+    pub stepped_literal : (n : ℕ) → n ≡ line_byte bs base i 4 + 256 * line_byte bs base i 5 + 65536 * line_byte bs base i 6 + 16777216 * line_byte bs base i 7 →
         byte_at bs (base + 8 * i) ≡ 2 → Stepped bs base count i ts (set ts i (Literal (line_byte bs base i 1) n)) (i + 1)
-    stepped-literal n w k = stepped_line _ (λ c b.
-        let v = has-literal bs base count i more n w c b k in
+    stepped_literal n w k = stepped_line _ (λ c b.
+        let v = has_literal bs base count i more n w c b k in
         (v.rest, v.begins, ap size_of v.is, λ xs j e h. subst (λ y. Spans xs i j y) (sym v.is) (e, h)))
 
   module _ (i : ℕ) (more : i < count) (ts us : List Line) (m : ℕ) (le : i < m) (d₁ : Filled (i + 1) ts us m) where
     -- an if: its two blocks, and then its three lines
-    pub stepped-if : (vs : List Line) (z : ℕ) → m < z → z < length ts → Filled (m + 1) us vs z → byte_at bs (base + 8 * i) ≡ 3 →
+    pub stepped_if : (vs : List Line) (z : ℕ) → m < z → z < length ts → Filled (m + 1) us vs z → byte_at bs (base + 8 * i) ≡ 3 →
         Stepped bs base count i ts (set (set (set vs i (If (line_byte bs base i 1) m)) m (Else z)) z (End i)) (z + 1)
-    stepped-if vs z lz room d₂ k =
+    stepped_if vs z lz room d₂ k =
         let x = line_byte bs base i 1 in
         let v₁ = set vs i (If x m) in
         let v₂ = set v₁ m (Else z) in
@@ -133,16 +133,16 @@ module _ (bs : List ℕ) (base count : ℕ) where
           outside = λ y o. keep y (⊎_elim (λ g. omega arith) (λ g. omega arith) o) (⊎_elim (λ g. omega arith) (λ g. omega arith) o) (⊎_elim (λ g. omega arith) (λ g. omega arith) o)
               ∙ d₂.outside y (⊎_elim (λ g. inl (omega arith)) (λ g. inr (omega arith)) o) ∙ d₁.outside y (⊎_elim (λ g. inl (omega arith)) (λ g. inr (omega arith)) o);
           onward = λ c b.
-              let v = has-if bs base count i more c b k in
-              let g₁ = d₁.spans v.first v.begins-first in
+              let v = has_if bs base count i more c b k in
+              let g₁ = d₁.spans v.first v.begins_first in
               let em = g₁.0 in
-              let g₂ = d₂.spans v.second (subst (λ y. Begins bs base count (y + 1) v.second) (sym em) v.begins-second) in
+              let g₂ = d₂.spans v.second (subst (λ y. Begins bs base count (y + 1) v.second) (sym em) v.begins_second) in
               let ez = g₂.0 in
               let er : i + 1 + size_of v.first + 1 + size_of v.second + 1 ≡ z + 1 = omega arith in
               let ec : i + (3 + size_of v.first + size_of v.second + size_of v.rest) ≡ z + 1 + size_of v.rest = omega arith in
               record {
                 rest = v.rest;
-                begins = subst (λ y. Begins bs base count y v.rest) er v.begins-rest;
+                begins = subst (λ y. Begins bs base count y v.rest) er v.begins_rest;
                 size = ap (λ y. i + size_of y) v.is ∙ ec;
                 spans = λ xs j s h. subst (λ y. Spans xs i j y) (sym v.is) (
                   m,
@@ -158,9 +158,9 @@ module _ (bs : List ℕ) (base count : ℕ) where
         }
 
     -- a loop: its block, and then its two lines
-    pub stepped-loop : m < length ts → byte_at bs (base + 8 * i) ≡ 6 →
+    pub stepped_loop : m < length ts → byte_at bs (base + 8 * i) ≡ 6 →
         Stepped bs base count i ts (set (set us i (Loop (line_byte bs base i 1) (line_byte bs base i 2) m)) m (End i)) (m + 1)
-    stepped-loop room k =
+    stepped_loop room k =
         let l = Loop (line_byte bs base i 1) (line_byte bs base i 2) m in
         let v₁ = set us i l in
         let v₂ = set v₁ m (End i) in
@@ -173,14 +173,14 @@ module _ (bs : List ℕ) (base count : ℕ) where
           outside = λ y o. keep y (⊎_elim (λ g. omega arith) (λ g. omega arith) o) (⊎_elim (λ g. omega arith) (λ g. omega arith) o)
               ∙ d₁.outside y (⊎_elim (λ g. inl (omega arith)) (λ g. inr (omega arith)) o);
           onward = λ c b.
-              let v = has-loop bs base count i more c b k in
-              let g₁ = d₁.spans v.first v.begins-first in
+              let v = has_loop bs base count i more c b k in
+              let g₁ = d₁.spans v.first v.begins_first in
               let em = g₁.0 in
               let er : i + 1 + size_of v.first + 1 ≡ m + 1 = omega arith in
               let ec : i + (2 + size_of v.first + size_of v.rest) ≡ m + 1 + size_of v.rest = omega arith in
               record {
                 rest = v.rest;
-                begins = subst (λ y. Begins bs base count y v.rest) er v.begins-rest;
+                begins = subst (λ y. Begins bs base count y v.rest) er v.begins_rest;
                 size = ap (λ y. i + size_of y) v.is ∙ ec;
                 spans = λ xs j s h. subst (λ y. Spans xs i j y) (sym v.is) (
                   m,
@@ -199,26 +199,26 @@ module _ (bs : List ℕ) (base count : ℕ) where
       pub within : m < count
       pub code : (q : Code) × Begins bs base count (m + 1) q
 
-    pub if-middle : byte_at bs (base + 8 * i) ≡ 3 → Midway
-    if-middle k =
-        let v = has-if bs base count i more c b k in
-        let e = (d₁.spans v.first v.begins-first).0 in
-        let w = v.begins-second.within in
-        record { after = omega arith; within = omega arith; code = (v.second, subst (λ y. Begins bs base count (y + 1) v.second) (sym e) v.begins-second) }
+    pub if_middle_lem : byte_at bs (base + 8 * i) ≡ 3 → Midway
+    if_middle_lem k =
+        let v = has_if bs base count i more c b k in
+        let e = (d₁.spans v.first v.begins_first).0 in
+        let w = v.begins_second.within in
+        record { after = omega arith; within = omega arith; code = (v.second, subst (λ y. Begins bs base count (y + 1) v.second) (sym e) v.begins_second) }
 
-    pub loop-end : byte_at bs (base + 8 * i) ≡ 6 → Midway
-    loop-end k =
-        let v = has-loop bs base count i more c b k in
-        let e = (d₁.spans v.first v.begins-first).0 in
-        let w = v.begins-rest.within in
-        record { after = omega arith; within = omega arith; code = (v.rest, subst (λ y. Begins bs base count (y + 1) v.rest) (sym e) v.begins-rest) }
+    pub loop_end_lem : byte_at bs (base + 8 * i) ≡ 6 → Midway
+    loop_end_lem k =
+        let v = has_loop bs base count i more c b k in
+        let e = (d₁.spans v.first v.begins_first).0 in
+        let w = v.begins_rest.within in
+        record { after = omega arith; within = omega arith; code = (v.rest, subst (λ y. Begins bs base count (y + 1) v.rest) (sym e) v.begins_rest) }
 
-    pub if-end : (vs : List Line) (z : ℕ) → Filled (m + 1) us vs z → byte_at bs (base + 8 * i) ≡ 3 → (m < z) × (z < count)
-    if-end vs z d₂ k =
-        let v = has-if bs base count i more c b k in
-        let e = (d₁.spans v.first v.begins-first).0 in
-        let e₂ = (d₂.spans v.second (subst (λ y. Begins bs base count (y + 1) v.second) (sym e) v.begins-second)).0 in
-        let w = v.begins-rest.within in
+    pub if_end : (vs : List Line) (z : ℕ) → Filled (m + 1) us vs z → byte_at bs (base + 8 * i) ≡ 3 → (m < z) × (z < count)
+    if_end vs z d₂ k =
+        let v = has_if bs base count i more c b k in
+        let e = (d₁.spans v.first v.begins_first).0 in
+        let e₂ = (d₂.spans v.second (subst (λ y. Begins bs base count (y + 1) v.second) (sym e) v.begins_second)).0 in
+        let w = v.begins_rest.within in
         (omega arith, omega arith)
 
   -- the four bytes of a literal's number

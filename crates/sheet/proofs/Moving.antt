@@ -26,11 +26,11 @@ module _ (xs : List Open) (n : ℕ) (six : length xs ≡ 6) where
         let e : n - 1 + 1 ≡ n = omega arith in
         ap (stack xs) (sym e) ∙ stack_top xs (n - 1) First (omega arith) ∙ ap (λ y. y ∷ stack xs (n - 1)) top
 
-    pub moved-turn : (ok : Bool) (os : List Open) → Moves (turned (o ∷ stack xs (n - 1))) ok os → Moves (turned (stack xs n)) ok os
-    moved-turn ok os h = subst (λ y. Moves (turned y) ok os) (sym topped) h
+    pub moved_turn : (ok : Bool) (os : List Open) → Moves (turned (o ∷ stack xs (n - 1))) ok os → Moves (turned (stack xs n)) ok os
+    moved_turn ok os h = subst (λ y. Moves (turned y) ok os) (sym topped) h
 
-    pub moved-close : (ok : Bool) (os : List Open) → Moves (closed (o ∷ stack xs (n - 1))) ok os → Moves (closed (stack xs n)) ok os
-    moved-close ok os h = subst (λ y. Moves (closed y) ok os) (sym topped) h
+    pub moved_close : (ok : Bool) (os : List Open) → Moves (closed (o ∷ stack xs (n - 1))) ok os → Moves (closed (stack xs n)) ok os
+    moved_close ok os h = subst (λ y. Moves (closed y) ok os) (sym topped) h
 
     -- another top in its place
     pub retopped : (q : Open) → stack (set xs (n - 1) q) n ≡ q ∷ stack xs (n - 1)

@@ -12,7 +12,7 @@ use Rattle.sheet.specs.declared.faults.ReadFault.TheVariants.{Nesting}
 use Rattle.sheet.specs.declared.nesting.Open.{Open}
 use Rattle.sheet.specs.declared.nesting.Open.TheVariants.{First, Second, Body}
 use Rattle.sheet.proofs.Stands.{Stands, stands_append, stands_moved, stands_front}
-use Rattle.sheet.proofs.Bytes.{unless_none, or_none, LineIs, is-work, is-literal, is-if, is-else, is-end, is_loop, line-is}
+use Rattle.sheet.proofs.Bytes.{unless_none, or_none, LineIs, is_work, is_literal, is_if, is_else, is_end, is_loop, line_is}
 
 never : {A : Type 0} → ◌≡◌ {A = ℕ} 0 1 → A
 never e = absurd (omega (arith, e))
@@ -174,37 +174,37 @@ module _ (cells : ℕ) (bs : List ℕ) where
 
   -- a line in front of what is left
   with_line : (at end : ℕ) (os os' : List Open) → LineIs cells bs at → nested (byte_at bs at) os ≡ Some os' → Block os' (at + 8) end → Block os at end
-  with_line at end os os' (is-work t o a b l₁ l₂ l₃ l₄ e h) g k =
+  with_line at end os os' (is_work t o a b l₁ l₂ l₃ l₄ e h) g k =
       let same : Some os ≡ Some os' = subst (λ y. nested y os ≡ Some os') e g in
       let es : os' ≡ os = cc in
       with_work os at end t o a b l₁ l₂ l₃ l₄ h (subst (λ y. Block y (at + 8) end) es k)
-  with_line at end os os' (is-literal t n l₁ l₂ e h) g k =
+  with_line at end os os' (is_literal t n l₁ l₂ e h) g k =
       let same : Some os ≡ Some os' = subst (λ y. nested y os ≡ Some os') e g in
       let es : os' ≡ os = cc in
       with_literal os at end t n l₁ l₂ h (subst (λ y. Block y (at + 8) end) es k)
-  with_line at end os os' (is-if x l e h) g k =
+  with_line at end os os' (is_if x l e h) g k =
       let o = opens First os os' (subst (λ y. nested y os ≡ Some os') e g) in
       with_if os at end x l o.0 h (subst (λ y. Block y (at + 8) end) o.1 k)
-  with_line at end os os' (is-else e h) g k = with_else os os' at end (subst (λ y. nested y os ≡ Some os') e g) h k
-  with_line at end os os' (is-end e h) g k = with_end os os' at end (subst (λ y. nested y os ≡ Some os') e g) h k
+  with_line at end os os' (is_else e h) g k = with_else os os' at end (subst (λ y. nested y os ≡ Some os') e g) h k
+  with_line at end os os' (is_end e h) g k = with_end os os' at end (subst (λ y. nested y os ≡ Some os') e g) h k
   with_line at end os os' (is_loop x n l l₁ l₂ e h) g k =
       let o = opens Body os os' (subst (λ y. nested y os ≡ Some os') e g) in
       with_loop os at end x n l l₁ l₂ o.0 h (subst (λ y. Block y (at + 8) end) o.1 k)
 
   module _ (bytes : Bytes bs) where
-    line-then : (at n : ℕ) (os : List Open) → ((os' : List Open) → lines_fault cells bs (at + 8) n os' ≡ None → Block os' (at + 8) (at + 8 + 8 * n)) →
+    line_then : (at n : ℕ) (os : List Open) → ((os' : List Open) → lines_fault cells bs (at + 8) n os' ≡ None → Block os' (at + 8) (at + 8 + 8 * n)) →
         (r : Result (List Open) ReadFault) → line_says cells bs at os ≡ r →
         (elim r as (λ _. Option ReadFault) [ Ok os' ↦ lines_fault cells bs (at + 8) n os' | Err f ↦ Some f ]) ≡ None → Block os at (at + 8 * suc n)
-    line-then at n os ih (Ok os') e h =
+    line_then at n os ih (Ok os') e h =
         let s = line_says_lem at os os' e in
         let k = subst (λ y. Block os' (at + 8) y) (let g : at + 8 + 8 * n ≡ at + 8 * suc n = omega arith in g) (ih os' h) in
-        with_line at (at + 8 * suc n) os os' (line-is cells bs at bytes s.0) s.1 k
-    line-then at n os ih (Err f) e h = never (cc)
+        with_line at (at + 8 * suc n) os os' (line_is cells bs at bytes s.0) s.1 k
+    line_then at n os ih (Err f) e h = never (cc)
 
     blocks : (n at : ℕ) (os : List Open) → lines_fault cells bs at n os ≡ None → Block os at (at + 8 * n)
     blocks zero at [] h = nothing [] at (at + 8 * 0) (omega arith)
     blocks zero at (o ∷ os) h = never (cc)
-    blocks (suc n) at os h = line-then at n os (λ os' g. blocks n (at + 8) os' g) (line_says cells bs at os) refl h
+    blocks (suc n) at os h = line_then at n os (λ os' g. blocks n (at + 8) os' g) (line_says cells bs at os) refl h
 
   -- the marks
   marks_rise : (n at low : ℕ) → marks_fault cells bs low at n ≡ None → (ms : List ℕ) × (length ms ≡ n) × Rising cells low ms × Here bs at ms

@@ -31,14 +31,14 @@ module _ (cells : ℕ) (bs : List ℕ) (at : ℕ) where
     one_more : end - at ≡ suc (end - (at + 1))
     one_more = omega arith
 
-    pub mark-next : (leb low (byte_at bs at) && ltb (byte_at bs at) cells) ≡ true →
+    pub mark_next : (leb low (byte_at bs at) && ltb (byte_at bs at) cells) ≡ true →
         marks_fault cells bs low at (end - at) ≡ marks_fault cells bs (byte_at bs at + 1) (at + 1) (end - (at + 1))
-    mark-next h =
+    mark_next h =
         let b = and_parts (leb low (byte_at bs at)) (ltb (byte_at bs at) cells) h in
         ap (marks_fault cells bs low at) one_more ∙ passed _ _ _ b.0 ∙ passed _ _ _ b.1
 
-    pub mark-bad : (leb low (byte_at bs at) && ltb (byte_at bs at) cells) ≡ false → marks_fault cells bs low at (end - at) ≡ Some (Mark at)
-    mark-bad h = ap (marks_fault cells bs low at) one_more ∙ either (leb low (byte_at bs at)) (ltb (byte_at bs at) cells) _ h
+    pub mark_bad : (leb low (byte_at bs at) && ltb (byte_at bs at) cells) ≡ false → marks_fault cells bs low at (end - at) ≡ Some (Mark at)
+    mark_bad h = ap (marks_fault cells bs low at) one_more ∙ either (leb low (byte_at bs at)) (ltb (byte_at bs at) cells) _ h
       where
         either : (s t : Bool) (rest : Option ReadFault) → (s && t) ≡ false → unless s (Mark at) (unless t (Mark at) rest) ≡ Some (Mark at)
         either true t rest g = failed t (Mark at) rest g
@@ -52,20 +52,20 @@ module _ (cells : ℕ) (bs : List ℕ) (at : ℕ) where
         let a : at + j + 1 ≡ at + (j + 1) = omega arith in
         ap (bytes_fault cells bs (at + j)) (drop_more rules j Kind more) ∙ passed _ _ _ h ∙ ap (λ y. bytes_fault cells bs y (drop (j + 1) rules)) a
 
-    pub byte-bad : obeys cells (get_or rules j Kind) (byte_at bs (at + j)) ≡ false →
+    pub byte_bad : obeys cells (get_or rules j Kind) (byte_at bs (at + j)) ≡ false →
         bytes_fault cells bs (at + j) (drop j rules) ≡ Some (Byte (at + j))
-    byte-bad h = ap (bytes_fault cells bs (at + j)) (drop_more rules j Kind more) ∙ failed _ _ _ h
+    byte_bad h = ap (bytes_fault cells bs (at + j)) (drop_more rules j Kind more) ∙ failed _ _ _ h
 
   abbrev then_lines : ℕ → Result (List Open) ReadFault → Option ReadFault
   then_lines m r = elim r [ Ok os ↦ lines_fault cells bs (at + 8) m os | Err f ↦ Some f ]
 
   -- lines: m are left, the one at `at` and n more
   module _ (os : List Open) (m n : ℕ) (more : m ≡ suc n) where
-    pub line-said : (os' : List Open) → line_says cells bs at os ≡ Ok os' → lines_fault cells bs at m os ≡ lines_fault cells bs (at + 8) n os'
-    line-said os' h = ap (λ k. lines_fault cells bs at k os) more ∙ ap (then_lines n) h
+    pub line_said : (os' : List Open) → line_says cells bs at os ≡ Ok os' → lines_fault cells bs at m os ≡ lines_fault cells bs (at + 8) n os'
+    line_said os' h = ap (λ k. lines_fault cells bs at k os) more ∙ ap (then_lines n) h
 
-    pub line-bad : (f : ReadFault) → line_says cells bs at os ≡ Err f → lines_fault cells bs at m os ≡ Some f
-    line-bad f h = ap (λ k. lines_fault cells bs at k os) more ∙ ap (then_lines n) h
+    pub line_bad : (f : ReadFault) → line_says cells bs at os ≡ Err f → lines_fault cells bs at m os ≡ Some f
+    line_bad f h = ap (λ k. lines_fault cells bs at k os) more ∙ ap (then_lines n) h
 
   pub ends_open : (os : List Open) (n : ℕ) → n ≡ 0 → 0 < length os → lines_fault cells bs at n os ≡ Some (Nesting at)
   ends_open [] n e l = absurd (omega arith)

@@ -4,7 +4,7 @@ use Rattle.std.proofs.lemmas.Bool.{cases_lt}
 use Rattle.marking.specs.Rules.{AtLeast}
 use Rattle.marking.specs.Spread.{marking}
 use Rattle.marking.proofs.Order.{Laws, above_none, above_trans}
-use Rattle.marking.proofs.Tables.{raised-has}
+use Rattle.marking.proofs.Tables.{raised_has}
 use Rattle.marking.proofs.Steps.{Raised, raise_moved, raise_below}
 use Rattle.marking.proofs.Starts.{rising_below, owns_at, owns_all}
 use Rattle.marking.proofs.spread.start.Given as given
@@ -41,7 +41,7 @@ loop-cell-preserved g c =
     let d : Raised join none ts us (get_or cs i 0) c.own.result c.raise.result =
     record { inside = omega (arith, low); after = c.raise.ensures.after; rises = c.raise.ensures.rose; stays = c.raise.ensures.stayed } in
     let grown = (raise_moved (laws g) ts us _ _ _ d).grown in
-    let has = subst (λ y. AtLeast join (marking none y (get_or cs i 0)) c.own.result) (sym d.after) (raised-has (laws g) ts (get_or cs i 0) c.own.result d.inside) in (
+    let has = subst (λ y. AtLeast join (marking none y (get_or cs i 0)) c.own.result) (sym d.after) (raised_has (laws g) ts (get_or cs i 0) c.own.result d.inside) in (
       below_more _ _ (λ k h. above_trans (laws g) _ _ _ (grown (get_or cs k 0)) (c.loop-cell.invariant.0 k h)) (subst (AtLeast join _) c.own.ensures has),
       λ m o. raise_below (laws g) ts us _ _ _ d m (subst (AtLeast join _) (sym c.own.ensures) (owns_at join own m cs o i (omega arith))) (c.loop-cell.invariant.1 m o),
     )

@@ -4,7 +4,7 @@ use Rattle.sheet.specs.Spans.{Spans, end_of}
 use Rattle.sheet.proofs.Heads.{spans_size, spans_none, at_work, at_literal, at_if, at_loop, not_else, not_end}
 use Rattle.run.specs.Branching.{branching}
 use Rattle.run.specs.Values.{kind_of}
-use Rattle.run.proofs.Going.{if-goes, if-breaks, loop-goes, loop-breaks, pass-ends, pass-goes, pass-breaks}
+use Rattle.run.proofs.Going.{if_goes, if_breaks, loop_goes, loop_breaks, pass_ends, pass_goes, pass_breaks}
 use Rattle.run.proofs.branching.+run_block_run_if_run_loop.Goals as goal
 
 pub run-block-loop-i-preserved-in-Work : goal.run-block-loop-i-preserved-in-Work
@@ -80,7 +80,7 @@ run-block-returns-in-Some g t c =
     let m = spans_size xs (i + 1) c.in-If.partner a.first a.spans_first in
     let z = spans_size xs (c.in-If.partner + 1) c.end-of-end.result a.second second in
     let r = c.in-Some.ensures in
-    if-breaks v c.in-If.cell i a.first a.second a.rest w c.in-If.partner c.end-of-end.result m z c.is-true.result (sym c.is-true.ensures) c.in-Some.broke (map f c.run-if.new.cells)
+    if_breaks v c.in-If.cell i a.first a.second a.rest w c.in-If.partner c.end-of-end.result m z c.is-true.result (sym c.is-true.ensures) c.in-Some.broke (map f c.run-if.new.cells)
     (λ y. r.yes y a.first a.spans_first) (λ y. r.no y a.second second)
     ∙ sym (ap (λ y. branching v y i w) a.is) ∙ k.2
 
@@ -119,7 +119,7 @@ run-block-loop-i-preserved-in-If g t c =
           let r = c.in-default.ensures in (
             a.rest,
             subst (λ y. Spans xs (y + 1) c.args.to a.rest) e a.spans_rest,
-            if-goes v c.in-If.cell i a.first a.second a.rest w c.in-If.partner c.end-of-end.result m z c.is-true.result (sym c.is-true.ensures) (map f c.run-if.new.cells)
+            if_goes v c.in-If.cell i a.first a.second a.rest w c.in-If.partner c.end-of-end.result m z c.is-true.result (sym c.is-true.ensures) (map f c.run-if.new.cells)
                 (λ y. r.yes y a.first a.spans_first) (λ y. r.no y a.second second)
                 ∙ sym (ap (λ y. branching v y i w) a.is) ∙ k.2,
           ),
@@ -140,7 +140,7 @@ run-block-returns-in-Some-run-loop g t c =
     λ d s.
     let k = c.loop-i.invariant.3 d s in
     let a = at_loop c.args.lines.now c.loop-i.i c.args.to (omega arith) _ _ _ c.in-Loop.is k.0 k.1 in
-    loop-breaks v c.in-Loop.cell i c.in-Loop.bound a.first a.rest w c.in-Some-run-loop.broke (map f c.run-loop.new.cells) (c.in-Some-run-loop.ensures a.first a.spans_first)
+    loop_breaks v c.in-Loop.cell i c.in-Loop.bound a.first a.rest w c.in-Some-run-loop.broke (map f c.run-loop.new.cells) (c.in-Some-run-loop.ensures a.first a.spans_first)
     ∙ sym (ap (λ y. branching v y i w) a.is) ∙ k.2
 
 pub run-block-overflow-add-i-in-Loop : goal.run-block-overflow-add-i-in-Loop
@@ -170,7 +170,7 @@ run-block-loop-i-preserved g t c =
           let a = at_loop c.args.lines.now c.loop-i.i c.args.to (omega arith) _ _ _ c.in-Loop.is k.0 k.1 in (
             a.rest,
             a.spans_rest,
-            loop-goes v c.in-Loop.cell i c.in-Loop.bound a.first a.rest w c.in-Loop.partner (map f c.run-loop.new.cells) (spans_size xs (i + 1) c.in-Loop.partner a.first a.spans_first) (c.in-default-run-loop.ensures a.first a.spans_first)
+            loop_goes v c.in-Loop.cell i c.in-Loop.bound a.first a.rest w c.in-Loop.partner (map f c.run-loop.new.cells) (spans_size xs (i + 1) c.in-Loop.partner a.first a.spans_first) (c.in-default-run-loop.ensures a.first a.spans_first)
                 ∙ sym (ap (λ y. branching v y i w) a.is) ∙ k.2,
           ),
     )
@@ -195,7 +195,7 @@ run-loop-returns-then-not-is-true g t c =
     let m = c.args.bound - (c.loop.counter + 1) in
     let e : n ≡ suc m = omega arith in
     let w = map f c.loop.cells in
-    λ p s. sym (pass-ends v c.args.cell c.args.from (branching v p (c.args.from + 1)) n m e w (sym c.if-not-is-true.ensures)) ∙ c.loop.invariant p s
+    λ p s. sym (pass_ends v c.args.cell c.args.from (branching v p (c.args.from + 1)) n m e w (sym c.if-not-is-true.ensures)) ∙ c.loop.invariant p s
 
 pub run-loop-returns-in-Some : goal.run-loop-returns-in-Some
 run-loop-returns-in-Some g t c =
@@ -206,7 +206,7 @@ run-loop-returns-in-Some g t c =
     let e : n ≡ suc m = omega arith in
     let w = map f c.loop.cells in
     λ p s.
-    sym (pass-breaks v c.args.cell c.args.from (branching v p (c.args.from + 1)) n m e w c.in-Some.broke (map f c.run-block.new.cells) (sym c.if-not-is-true.ensures) (c.in-Some.ensures p s)) ∙ c.loop.invariant p s
+    sym (pass_breaks v c.args.cell c.args.from (branching v p (c.args.from + 1)) n m e w c.in-Some.broke (map f c.run-block.new.cells) (sym c.if-not-is-true.ensures) (c.in-Some.ensures p s)) ∙ c.loop.invariant p s
 
 pub run-loop-loop-preserved : goal.run-loop-loop-preserved
 run-loop-loop-preserved g t c =
@@ -217,4 +217,4 @@ run-loop-loop-preserved g t c =
     let e : n ≡ suc m = omega arith in
     let w = map f c.loop.cells in
     λ p s.
-    sym (pass-goes v c.args.cell c.args.from (branching v p (c.args.from + 1)) n m e w (map f c.run-block.new.cells) (sym c.if-not-is-true.ensures) (c.in-default.ensures p s)) ∙ c.loop.invariant p s
+    sym (pass_goes v c.args.cell c.args.from (branching v p (c.args.from + 1)) n m e w (map f c.run-block.new.cells) (sym c.if-not-is-true.ensures) (c.in-default.ensures p s)) ∙ c.loop.invariant p s

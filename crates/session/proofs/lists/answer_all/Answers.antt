@@ -7,7 +7,7 @@ use Rattle.protocol.specs.Promise.{answers_of}
 use Rattle.protocol.specs.Watching.{watch_of}
 use Rattle.protocol.specs.declared.calls.Call.TheVariants.{Put}
 use Rattle.round.specs.Rounds.{terms_of, stand_of}
-use Rattle.session.proofs.Listing.{one-listed, one_ended, all-ended, all_listed, whole_list}
+use Rattle.session.proofs.Listing.{one_listed, one_ended, all_ended, all_listed, whole_list}
 use Rattle.session.proofs.lists.answer_all.Goals as goal
 
 pub loop-i-preserved : goal.loop-i-preserved
@@ -32,7 +32,7 @@ loop-i-preserved g c =
     let k : i < length xs = omega arith in
     let on : s' ≡ after t w s (get_or cs i d) = hears.stands ∙ ap (λ z. after z w s (get_or cs i d)) terms in
     let e : a ≡ answer t w s (path_score t s.run) (get_or cs i d) = hears.says ∙ ap (λ z. answer z w s (path_score z s.run) (get_or cs i d)) terms in (
-      ap (λ z. take (i + 1) z ++ answers_of (tells t w s' (drop (i + 1) cs))) noted ∙ one-listed t w cs i d s s' h on xs a k e ∙ so_far,
+      ap (λ z. take (i + 1) z ++ answers_of (tells t w s' (drop (i + 1) cs))) noted ∙ one_listed t w cs i d s s' h on xs a k e ∙ so_far,
       ap (drop (length cs)) noted ∙ drop-set-lt (length cs) xs i a h ∙ rest,
       ap length noted ∙ length-set xs i a ∙ long,
       one_ended t w cs i d s s' h on ∙ stands,
@@ -56,7 +56,7 @@ returns g c =
     record {
       hears = record {
         says = whole_list (length cs) i xs ys _ h (omega arith) (sym (all_listed t w cs i s h ys) ∙ so_far) rest;
-        stands = sym (all-ended t w cs i s h) ∙ stands;
+        stands = sym (all_ended t w cs i s h) ∙ stands;
         terms = terms;
       };
       loan = loan;

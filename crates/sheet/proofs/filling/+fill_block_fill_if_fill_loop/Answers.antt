@@ -1,7 +1,7 @@
 use Rattle.std.proofs.Common.{◌≡◌, ℕ, ◌+◌, ◌*◌, ◌<◌, ◌≤◌, length, set, sym, refl, ap, ◌∙◌, subst, arith, rules}
 use Rattle.std.proofs.lemmas.List.{length-set}
-use Rattle.sheet.proofs.Blocks.{has-work, has-literal, has-if, has-loop, has-none, at_end}
-use Rattle.sheet.proofs.Filled.{filled_none, filled_then, stepped-work, stepped-literal, stepped-if, stepped-loop, if-middle, if-end, loop-end, number_bytes}
+use Rattle.sheet.proofs.Blocks.{has_work, has_literal, has_if, has_loop, has_none, at_end}
+use Rattle.sheet.proofs.Filled.{filled_none, filled_then, stepped_work, stepped_literal, stepped_if, stepped_loop, if_middle_lem, if_end, loop_end_lem, number_bytes}
 use Rattle.sheet.proofs.filling.+fill_block_fill_if_fill_loop.Goals as goal
 
 -- a line or a construct of the block, and then the lines that are left
@@ -9,14 +9,14 @@ use Rattle.sheet.proofs.filling.+fill_block_fill_if_fill_loop.Goals as goal
 pub fill_block-loop-i-preserved-in-1 : goal.fill_block-loop-i-preserved-in-1
 fill_block-loop-i-preserved-in-1 t c =
     let bs = c.args.bytes.now in let base = c.args.base in let n = c.args.count in let i = c.loop-i.i in let b = c.loop-i.invariant.3 in
-    let s = stepped-work bs base n i c.loop-i-test.true c.loop-i.table (omega arith) c.in-1.is in
+    let s = stepped_work bs base n i c.loop-i-test.true c.loop-i.table (omega arith) c.in-1.is in
     let w = s.onward b.0 b.1 in
     (omega arith, omega arith, s.long ∙ c.loop-i.invariant.2, (w.rest, w.begins), λ vs r d. c.loop-i.invariant.4 vs r (filled_then bs base n i (i + 1) r c.loop-i.table _ vs b s d))
 
 pub fill_block-loop-i-preserved-in-2 : goal.fill_block-loop-i-preserved-in-2
 fill_block-loop-i-preserved-in-2 t c =
     let bs = c.args.bytes.now in let base = c.args.base in let n = c.args.count in let i = c.loop-i.i in let b = c.loop-i.invariant.3 in
-    let s = stepped-literal bs base n i c.loop-i-test.true c.loop-i.table (omega arith) c.number.result (number_bytes bs base n i c.number.result c.number.ensures) c.in-2.is in
+    let s = stepped_literal bs base n i c.loop-i-test.true c.loop-i.table (omega arith) c.number.result (number_bytes bs base n i c.number.result c.number.ensures) c.in-2.is in
     let w = s.onward b.0 b.1 in
     (omega arith, omega arith, s.long ∙ c.loop-i.invariant.2, (w.rest, w.begins), λ vs r d. c.loop-i.invariant.4 vs r (filled_then bs base n i (i + 1) r c.loop-i.table _ vs b s d))
 
@@ -42,7 +42,7 @@ pub fill_block-returns-in_default : goal.fill_block-returns-in_default
 fill_block-returns-in_default t c =
     let bs = c.args.bytes.now in let base = c.args.base in let n = c.args.count in let i = c.loop-i.i in
     c.loop-i.invariant.4 c.loop-i.table i
-    (filled_none bs base n i c.loop-i.table (λ d b. has-none bs base n i c.loop-i-test.true d b (λ e. omega arith) (λ e. omega arith) (λ e. omega arith) (λ e. omega arith)))
+    (filled_none bs base n i c.loop-i.table (λ d b. has_none bs base n i c.loop-i-test.true d b (λ e. omega arith) (λ e. omega arith) (λ e. omega arith) (λ e. omega arith)))
 
 pub fill_block-returns : goal.fill_block-returns
 fill_block-returns t c =
@@ -53,83 +53,83 @@ fill_block-returns t c =
 
 pub fill_if-fill_block-middle-requires : goal.fill_if-fill_block-middle-requires
 fill_if-fill_block-middle-requires t c =
-    let v = has-if c.args.bytes.now c.args.base c.args.count c.args.from c.requires.ordered c.requires.code.0 c.requires.code.1 c.requires.kind in
+    let v = has_if c.args.bytes.now c.args.base c.args.count c.args.from c.requires.ordered c.requires.code.0 c.requires.code.1 c.requires.kind in
     (omega (arith, c.decreases), ((v.first, v.begins-first), (omega arith, (c.requires.room, c.requires.whole))))
 
 pub fill_if-overflow_add-middle : goal.fill_if-overflow_add-middle
 fill_if-overflow_add-middle t c =
-    let m = if-middle c.args.bytes.now c.args.base c.args.count c.args.from c.requires.ordered c.requires.code.0 c.requires.code.1 c.args.table.now c.fill_block-middle.new.table c.fill_block-middle.result c.fill_block-middle.ensures c.requires.kind in
+    let m = if_middle_lem c.args.bytes.now c.args.base c.args.count c.args.from c.requires.ordered c.requires.code.0 c.requires.code.1 c.args.table.now c.fill_block-middle.new.table c.fill_block-middle.result c.fill_block-middle.ensures c.requires.kind in
     let l : c.fill_block-middle.result < length c.args.table.now = omega (arith, m.within) in
     search rules
 
 pub fill_if-fill_block-end-requires : goal.fill_if-fill_block-end-requires
 fill_if-fill_block-end-requires t c =
-    let m = if-middle c.args.bytes.now c.args.base c.args.count c.args.from c.requires.ordered c.requires.code.0 c.requires.code.1 c.args.table.now c.fill_block-middle.new.table c.fill_block-middle.result c.fill_block-middle.ensures c.requires.kind in
+    let m = if_middle_lem c.args.bytes.now c.args.base c.args.count c.args.from c.requires.ordered c.requires.code.0 c.requires.code.1 c.args.table.now c.fill_block-middle.new.table c.fill_block-middle.result c.fill_block-middle.ensures c.requires.kind in
     let l₁ = m.after in
     let l₂ = m.within in
     (omega (arith, c.decreases), (m.code, (omega arith, (omega (arith, c.fill_block-middle.ensures.long), c.requires.whole))))
 
 pub fill_if-offset_bounds-table-middle : goal.fill_if-offset_bounds-table-middle
 fill_if-offset_bounds-table-middle t c =
-    let m = if-middle c.args.bytes.now c.args.base c.args.count c.args.from c.requires.ordered c.requires.code.0 c.requires.code.1 c.args.table.now c.fill_block-middle.new.table c.fill_block-middle.result c.fill_block-middle.ensures c.requires.kind in
+    let m = if_middle_lem c.args.bytes.now c.args.base c.args.count c.args.from c.requires.ordered c.requires.code.0 c.requires.code.1 c.args.table.now c.fill_block-middle.new.table c.fill_block-middle.result c.fill_block-middle.ensures c.requires.kind in
     let l : c.fill_block-middle.result < length c.args.table.now = omega (arith, m.within) in
     search rules
 
 pub fill_if-bounds-table-middle : goal.fill_if-bounds-table-middle
 fill_if-bounds-table-middle t c =
-    let m = if-middle c.args.bytes.now c.args.base c.args.count c.args.from c.requires.ordered c.requires.code.0 c.requires.code.1 c.args.table.now c.fill_block-middle.new.table c.fill_block-middle.result c.fill_block-middle.ensures c.requires.kind in
+    let m = if_middle_lem c.args.bytes.now c.args.base c.args.count c.args.from c.requires.ordered c.requires.code.0 c.requires.code.1 c.args.table.now c.fill_block-middle.new.table c.fill_block-middle.result c.fill_block-middle.ensures c.requires.kind in
     simp length-set (omega (arith, m.within, c.fill_block-middle.ensures.long, c.fill_block-end.ensures.long))
 
 pub fill_if-offset_bounds-table-end : goal.fill_if-offset_bounds-table-end
 fill_if-offset_bounds-table-end t c =
-    let z = if-end c.args.bytes.now c.args.base c.args.count c.args.from c.requires.ordered c.requires.code.0 c.requires.code.1 c.args.table.now c.fill_block-middle.new.table c.fill_block-middle.result c.fill_block-middle.ensures c.fill_block-end.new.table c.fill_block-end.result c.fill_block-end.ensures c.requires.kind in
+    let z = if_end c.args.bytes.now c.args.base c.args.count c.args.from c.requires.ordered c.requires.code.0 c.requires.code.1 c.args.table.now c.fill_block-middle.new.table c.fill_block-middle.result c.fill_block-middle.ensures c.fill_block-end.new.table c.fill_block-end.result c.fill_block-end.ensures c.requires.kind in
     let l : c.fill_block-end.result < length c.args.table.now = omega (arith, z.1) in
     search rules
 
 pub fill_if-bounds-table-end : goal.fill_if-bounds-table-end
 fill_if-bounds-table-end t c =
-    let z = if-end c.args.bytes.now c.args.base c.args.count c.args.from c.requires.ordered c.requires.code.0 c.requires.code.1 c.args.table.now c.fill_block-middle.new.table c.fill_block-middle.result c.fill_block-middle.ensures c.fill_block-end.new.table c.fill_block-end.result c.fill_block-end.ensures c.requires.kind in
+    let z = if_end c.args.bytes.now c.args.base c.args.count c.args.from c.requires.ordered c.requires.code.0 c.requires.code.1 c.args.table.now c.fill_block-middle.new.table c.fill_block-middle.result c.fill_block-middle.ensures c.fill_block-end.new.table c.fill_block-end.result c.fill_block-end.ensures c.requires.kind in
     simp length-set (omega (arith, z.1, c.fill_block-middle.ensures.long, c.fill_block-end.ensures.long))
 
 pub fill_if-overflow_add-result : goal.fill_if-overflow_add-result
 fill_if-overflow_add-result t c =
-    let z = if-end c.args.bytes.now c.args.base c.args.count c.args.from c.requires.ordered c.requires.code.0 c.requires.code.1 c.args.table.now c.fill_block-middle.new.table c.fill_block-middle.result c.fill_block-middle.ensures c.fill_block-end.new.table c.fill_block-end.result c.fill_block-end.ensures c.requires.kind in
+    let z = if_end c.args.bytes.now c.args.base c.args.count c.args.from c.requires.ordered c.requires.code.0 c.requires.code.1 c.args.table.now c.fill_block-middle.new.table c.fill_block-middle.result c.fill_block-middle.ensures c.fill_block-end.new.table c.fill_block-end.result c.fill_block-end.ensures c.requires.kind in
     let l : c.fill_block-end.result < length c.args.table.now = omega (arith, z.1) in
     search rules
 
 pub fill_if-returns : goal.fill_if-returns
 fill_if-returns t c =
-    let m = if-middle c.args.bytes.now c.args.base c.args.count c.args.from c.requires.ordered c.requires.code.0 c.requires.code.1 c.args.table.now c.fill_block-middle.new.table c.fill_block-middle.result c.fill_block-middle.ensures c.requires.kind in
-    let z = if-end c.args.bytes.now c.args.base c.args.count c.args.from c.requires.ordered c.requires.code.0 c.requires.code.1 c.args.table.now c.fill_block-middle.new.table c.fill_block-middle.result c.fill_block-middle.ensures c.fill_block-end.new.table c.fill_block-end.result c.fill_block-end.ensures c.requires.kind in
-    stepped-if c.args.bytes.now c.args.base c.args.count c.args.from c.requires.ordered c.args.table.now c.fill_block-middle.new.table c.fill_block-middle.result m.after c.fill_block-middle.ensures
+    let m = if_middle_lem c.args.bytes.now c.args.base c.args.count c.args.from c.requires.ordered c.requires.code.0 c.requires.code.1 c.args.table.now c.fill_block-middle.new.table c.fill_block-middle.result c.fill_block-middle.ensures c.requires.kind in
+    let z = if_end c.args.bytes.now c.args.base c.args.count c.args.from c.requires.ordered c.requires.code.0 c.requires.code.1 c.args.table.now c.fill_block-middle.new.table c.fill_block-middle.result c.fill_block-middle.ensures c.fill_block-end.new.table c.fill_block-end.result c.fill_block-end.ensures c.requires.kind in
+    stepped_if c.args.bytes.now c.args.base c.args.count c.args.from c.requires.ordered c.args.table.now c.fill_block-middle.new.table c.fill_block-middle.result m.after c.fill_block-middle.ensures
     c.fill_block-end.new.table c.fill_block-end.result z.0 (omega (arith, z.1)) c.fill_block-end.ensures c.requires.kind
 
 -- a loop
 
 pub fill_loop-fill_block-end-requires : goal.fill_loop-fill_block-end-requires
 fill_loop-fill_block-end-requires t c =
-    let v = has-loop c.args.bytes.now c.args.base c.args.count c.args.from c.requires.ordered c.requires.code.0 c.requires.code.1 c.requires.kind in
+    let v = has_loop c.args.bytes.now c.args.base c.args.count c.args.from c.requires.ordered c.requires.code.0 c.requires.code.1 c.requires.kind in
     (omega (arith, c.decreases), ((v.first, v.begins-first), (omega arith, (c.requires.room, c.requires.whole))))
 
 pub fill_loop-offset_bounds-table-end : goal.fill_loop-offset_bounds-table-end
 fill_loop-offset_bounds-table-end t c =
-    let m = loop-end c.args.bytes.now c.args.base c.args.count c.args.from c.requires.ordered c.requires.code.0 c.requires.code.1 c.args.table.now c.fill_block-end.new.table c.fill_block-end.result c.fill_block-end.ensures c.requires.kind in
+    let m = loop_end_lem c.args.bytes.now c.args.base c.args.count c.args.from c.requires.ordered c.requires.code.0 c.requires.code.1 c.args.table.now c.fill_block-end.new.table c.fill_block-end.result c.fill_block-end.ensures c.requires.kind in
     let l : c.fill_block-end.result < length c.args.table.now = omega (arith, m.within) in
     search rules
 
 pub fill_loop-bounds-table-end : goal.fill_loop-bounds-table-end
 fill_loop-bounds-table-end t c =
-    let m = loop-end c.args.bytes.now c.args.base c.args.count c.args.from c.requires.ordered c.requires.code.0 c.requires.code.1 c.args.table.now c.fill_block-end.new.table c.fill_block-end.result c.fill_block-end.ensures c.requires.kind in
+    let m = loop_end_lem c.args.bytes.now c.args.base c.args.count c.args.from c.requires.ordered c.requires.code.0 c.requires.code.1 c.args.table.now c.fill_block-end.new.table c.fill_block-end.result c.fill_block-end.ensures c.requires.kind in
     simp length-set (omega (arith, m.within, c.fill_block-end.ensures.long))
 
 pub fill_loop-overflow_add-result : goal.fill_loop-overflow_add-result
 fill_loop-overflow_add-result t c =
-    let m = loop-end c.args.bytes.now c.args.base c.args.count c.args.from c.requires.ordered c.requires.code.0 c.requires.code.1 c.args.table.now c.fill_block-end.new.table c.fill_block-end.result c.fill_block-end.ensures c.requires.kind in
+    let m = loop_end_lem c.args.bytes.now c.args.base c.args.count c.args.from c.requires.ordered c.requires.code.0 c.requires.code.1 c.args.table.now c.fill_block-end.new.table c.fill_block-end.result c.fill_block-end.ensures c.requires.kind in
     let l : c.fill_block-end.result < length c.args.table.now = omega (arith, m.within) in
     search rules
 
 pub fill_loop-returns : goal.fill_loop-returns
 fill_loop-returns t c =
-    let m = loop-end c.args.bytes.now c.args.base c.args.count c.args.from c.requires.ordered c.requires.code.0 c.requires.code.1 c.args.table.now c.fill_block-end.new.table c.fill_block-end.result c.fill_block-end.ensures c.requires.kind in
-    stepped-loop c.args.bytes.now c.args.base c.args.count c.args.from c.requires.ordered c.args.table.now c.fill_block-end.new.table c.fill_block-end.result m.after c.fill_block-end.ensures
+    let m = loop_end_lem c.args.bytes.now c.args.base c.args.count c.args.from c.requires.ordered c.requires.code.0 c.requires.code.1 c.args.table.now c.fill_block-end.new.table c.fill_block-end.result c.fill_block-end.ensures c.requires.kind in
+    stepped_loop c.args.bytes.now c.args.base c.args.count c.args.from c.requires.ordered c.args.table.now c.fill_block-end.new.table c.fill_block-end.result m.after c.fill_block-end.ensures
     (omega (arith, m.within)) c.requires.kind
