@@ -44,7 +44,7 @@ def main():
             if not m or line.lstrip().startswith('--'):
                 continue
             every[m.group(1)].add(f)
-            if line.startswith('  pub '):
+            if re.match(r' {2,4}pub ', line):
                 own_fields.add(m.group(1))
             if wanted(m.group(1), m.group(2)):
                 names[m.group(1)] = SPECIAL.get(m.group(1), snake(m.group(1)))

@@ -29,7 +29,7 @@ pub fn least_marking<'a, M: Mark>(
     marks: &mut [M],
 ) -> Result<Marked<'a>, MarkFault>
     ensures first { found result ≡ mark_fault bytes.now (length lines.old) (length marks.old) }
-    ensures marks { Marks M.joined M.owned M.unmarked height bytes.now lines.old lines.new marks.old marks.new result }
+    ensures marks { Marks M.joined M.owned M.unmarked M.height bytes.now lines.old lines.new marks.old marks.new result }
 {
     check_tables(bytes, lines.len(), marks.len())?;
     let sheet = read(bytes, lines)?;

@@ -77,24 +77,24 @@ around_blocks-inside-requires g t c =
 pub offset_bounds-lines-partner : goal.offset_bounds-lines-partner
 offset_bounds-lines-partner g t c =
     let v = reads_if _ _ _ _ (omega arith) c.loop-i.invariant.2 _ _ _ c.in-If.is refl in
-    let l : c.in-If.partner < length c.args.lines.now = omega (arith, v.le-second, v.le-rest) in
+    let l : c.in-If.partner < length c.args.lines.now = omega (arith, v.le_second, v.le_rest) in
     search rules
 
 pub bounds-lines-partner : goal.bounds-lines-partner
 bounds-lines-partner g t c =
     let v = reads_if _ _ _ _ (omega arith) c.loop-i.invariant.2 _ _ _ c.in-If.is refl in
-    omega (arith, v.le-second, v.le-rest)
+    omega (arith, v.le_second, v.le_rest)
 
 pub spread_block-rose-requires : goal.spread_block-rose-requires
 spread_block-rose-requires g t c κs =
     let v = reads_if _ _ _ _ (omega arith) c.loop-i.invariant.2 _ _ _ c.in-If.is c.end_of-end.ensures in
     λ lives. (
-      omega (arith, c.decreases, v.le-first, v.le-second, v.le-rest),
+      omega (arith, c.decreases, v.le_first, v.le_second, v.le_rest),
       (
         lives,
         (
           subst (λ n. Reads c.args.lines.now n (c.loop-i.i + 1) c.in-If.partner) (sym c.loop-i.auto.marks) v.first,
-          (v.le-first, omega (arith, v.le-second, v.le-rest)),
+          (v.le_first, omega (arith, v.le_second, v.le_rest)),
         ),
       ),
     )
@@ -102,7 +102,7 @@ spread_block-rose-requires g t c κs =
 pub overflow_add-partner : goal.overflow_add-partner
 overflow_add-partner g t c =
     let v = reads_if _ _ _ _ (omega arith) c.loop-i.invariant.2 _ _ _ c.in-If.is c.end_of-end.ensures in
-    let l : c.in-If.partner < length c.args.lines.now = omega (arith, v.le-second, v.le-rest) in
+    let l : c.in-If.partner < length c.args.lines.now = omega (arith, v.le_second, v.le_rest) in
     search rules
 
 pub spread_block-rose-requires-in-If : goal.spread_block-rose-requires-in-If
@@ -111,12 +111,12 @@ spread_block-rose-requires-in-If g t c κs =
     let grown = c.spread_block-rose.ensures.moved.long in
     let long : length c.spread_block-rose.new.marks ≡ length c.args.marks.now = cc in
     λ lives. (
-      omega (arith, c.decreases, v.le-first, v.le-second, v.le-rest),
+      omega (arith, c.decreases, v.le_first, v.le_second, v.le_rest),
       (
         lives,
         (
           subst (λ n. Reads c.args.lines.now n (c.in-If.partner + 1) c.end_of-end.result) (sym long) v.second,
-          (v.le-second, omega (arith, v.le-rest)),
+          (v.le_second, omega (arith, v.le_rest)),
         ),
       ),
     )
@@ -124,13 +124,13 @@ spread_block-rose-requires-in-If g t c κs =
 pub overflow_add-i-in-If-2 : goal.overflow_add-i-in-If-2
 overflow_add-i-in-If-2 g t c =
     let v = reads_if _ _ _ _ (omega arith) c.loop-i.invariant.2 _ _ _ c.in-If.is c.end_of-end.ensures in
-    let l : c.end_of-end.result < length c.args.lines.now = omega (arith, v.le-rest) in
+    let l : c.end_of-end.result < length c.args.lines.now = omega (arith, v.le_rest) in
     search rules
 
 pub loop-i-smaller-in-If : goal.loop-i-smaller-in-If
 loop-i-smaller-in-If g t c =
     let v = reads_if _ _ _ _ (omega arith) c.loop-i.invariant.2 _ _ _ c.in-If.is c.end_of-end.ensures in
-    omega (arith, v.le-first, v.le-second, v.le-rest)
+    omega (arith, v.le_first, v.le_second, v.le_rest)
 
 pub loop-i-preserved-in-If : goal.loop-i-preserved-in-If
 loop-i-preserved-in-If g t c =
@@ -150,8 +150,8 @@ loop-i-preserved-in-If g t c =
     let inside = c.around_blocks-inside.ensures in
     let d₁ = subst (λ y. Passed join none g.M.Mark.rank xs (i + 1) k y ts us r₁) inside c.spread_block-rose.ensures in
     let d₂ = subst (λ y. Passed join none g.M.Mark.rank xs (k + 1) z y us us' r₂) inside c.spread_block-rose-in-If.ensures in (
-      omega (arith, v.le-first, v.le-second),
-      v.le-rest,
+      omega (arith, v.le_first, v.le_second),
+      v.le_rest,
       v.rest,
       λ vs r n.
           let P = λ (q : Bool). Passed join none g.M.Mark.rank xs c.args.from c.args.to w c.args.marks.now vs q in
@@ -170,12 +170,12 @@ pub spread_block-rose-requires-in-Loop : goal.spread_block-rose-requires-in-Loop
 spread_block-rose-requires-in-Loop g t c κs =
     let v = reads_loop _ _ _ _ (omega arith) c.loop-i.invariant.2 _ _ _ c.in-Loop.is in
     λ lives. (
-      omega (arith, c.decreases, v.le-first, v.le-rest),
+      omega (arith, c.decreases, v.le_first, v.le_rest),
       (
         lives,
         (
           subst (λ n. Reads c.args.lines.now n (c.loop-i.i + 1) c.in-Loop.partner) (sym c.loop-i.auto.marks) v.first,
-          (v.le-first, omega (arith, v.le-rest)),
+          (v.le_first, omega (arith, v.le_rest)),
         ),
       ),
     )
@@ -183,13 +183,13 @@ spread_block-rose-requires-in-Loop g t c κs =
 pub overflow_add-i-in-Loop-2 : goal.overflow_add-i-in-Loop-2
 overflow_add-i-in-Loop-2 g t c =
     let v = reads_loop _ _ _ _ (omega arith) c.loop-i.invariant.2 _ _ _ c.in-Loop.is in
-    let l : c.in-Loop.partner < length c.args.lines.now = omega (arith, v.le-rest) in
+    let l : c.in-Loop.partner < length c.args.lines.now = omega (arith, v.le_rest) in
     search rules
 
 pub loop-i-smaller : goal.loop-i-smaller
 loop-i-smaller g t c =
     let v = reads_loop _ _ _ _ (omega arith) c.loop-i.invariant.2 _ _ _ c.in-Loop.is in
-    omega (arith, v.le-first, v.le-rest)
+    omega (arith, v.le_first, v.le_rest)
 
 pub loop-i-preserved : goal.loop-i-preserved
 loop-i-preserved g t c =
@@ -205,8 +205,8 @@ loop-i-preserved g t c =
     let r₁ = c.spread_block-rose-in-Loop.result in
     let inside = c.around_blocks-inside-in-Loop.ensures in
     let d = subst (λ y. Passed join none g.M.Mark.rank xs (i + 1) z y ts us r₁) inside c.spread_block-rose-in-Loop.ensures in (
-      omega (arith, v.le-first),
-      v.le-rest,
+      omega (arith, v.le_first),
+      v.le_rest,
       v.rest,
       λ vs r n. or_more (λ q. Passed join none g.M.Mark.rank xs c.args.from c.args.to w c.args.marks.now vs q) c.loop-i.rose r₁ r
           (c.loop-i.invariant.3 vs _ (pass_loop (laws g) xs w i c.args.to (omega arith) ts us vs _ _ z r₁ r c.in-Loop.is d n)),

@@ -54,7 +54,7 @@ fill_block-returns t c =
 pub fill_if-fill_block-middle-requires : goal.fill_if-fill_block-middle-requires
 fill_if-fill_block-middle-requires t c =
     let v = has_if c.args.bytes.now c.args.base c.args.count c.args.from c.requires.ordered c.requires.code.0 c.requires.code.1 c.requires.kind in
-    (omega (arith, c.decreases), ((v.first, v.begins-first), (omega arith, (c.requires.room, c.requires.whole))))
+    (omega (arith, c.decreases), ((v.first, v.begins_first), (omega arith, (c.requires.room, c.requires.whole))))
 
 pub fill_if-overflow_add-middle : goal.fill_if-overflow_add-middle
 fill_if-overflow_add-middle t c =
@@ -109,7 +109,7 @@ fill_if-returns t c =
 pub fill_loop-fill_block-end-requires : goal.fill_loop-fill_block-end-requires
 fill_loop-fill_block-end-requires t c =
     let v = has_loop c.args.bytes.now c.args.base c.args.count c.args.from c.requires.ordered c.requires.code.0 c.requires.code.1 c.requires.kind in
-    (omega (arith, c.decreases), ((v.first, v.begins-first), (omega arith, (c.requires.room, c.requires.whole))))
+    (omega (arith, c.decreases), ((v.first, v.begins_first), (omega arith, (c.requires.room, c.requires.whole))))
 
 pub fill_loop-offset_bounds-table-end : goal.fill_loop-offset_bounds-table-end
 fill_loop-offset_bounds-table-end t c =
