@@ -5,9 +5,9 @@ use Rattle.onepath.proofs.blocks.convert_lines.Goals as goal
 
 pub returns : goal.returns
 returns c =
-    let d = c.convert-block.ensures in
+    let d = c.convert_block.ensures in
     record {
-      listed = λ p h. front_steps (covered_in c.args.covered.now) c.args.steps.now c.convert-block.new.steps 0 0 0 c.convert-block.result p (d.holds p h) (omega (arith, d.most, d.long)) d.long d.above;
-      number = λ p h. omega (arith, (holds_stand (covered_in c.args.covered.now) c.convert-block.new.steps 0 0 0 0 c.convert-block.result p (d.holds p h)).0);
+      listed = λ p h. front_steps (covered_in c.args.covered.now) c.args.steps.now c.convert_block.new.steps 0 0 0 c.convert_block.result p (d.holds p h) (omega (arith, d.most, d.long)) d.long d.above;
+      number = λ p h. omega (arith, (holds_stand (covered_in c.args.covered.now) c.convert_block.new.steps 0 0 0 0 c.convert_block.result p (d.holds p h)).0);
       most = omega (arith, d.most);
     }

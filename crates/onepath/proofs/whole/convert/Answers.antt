@@ -5,19 +5,19 @@ use Rattle.onepath.specs.Cover.{covered_in}
 use Rattle.onepath.specs.Listed.{steps_of}
 use Rattle.onepath.proofs.whole.convert.Goals as goal
 
-pub convert-lines-count-requires : goal.convert-lines-count-requires
-convert-lines-count-requires c =
-    let w = c.in-ok-marked.ensures.marks in
-    let f = c.in-ok-check-tables.ensures.fits in
+pub convert_lines-count-requires : goal.convert_lines-count-requires
+convert_lines-count-requires c =
+    let w = c.in_ok-marked.ensures.marks in
+    let f = c.in_ok-check_tables.ensures.fits in
     let p = w.0 in
     let lines = w.2.lines in
     let same = laid_lines c.args.bytes.now p w.1 in
     let same' = laid_lines c.args.bytes.now f.program f.laid in
     let room = f.steps in
     let short = w.1.lawful.short in
-    let long = filled_long p c.args.lines.now c.least-marking.new.lines w.3 in
+    let long = filled_long p c.args.lines.now c.least_marking.new.lines w.3 in
     record {
-      reads = (p.code, filled_spans p c.args.lines.now c.least-marking.new.lines c.in-ok-marked.marked.sheet.lines w.3 lines);
+      reads = (p.code, filled_spans p c.args.lines.now c.least_marking.new.lines c.in_ok-marked.marked.sheet.lines w.3 lines);
       inside = omega arith;
       few = omega arith;
       room = omega arith;
@@ -25,18 +25,18 @@ convert-lines-count-requires c =
 
 pub returns : goal.returns
 returns c =
-    let w = c.in-ok-marked.ensures.marks in
+    let w = c.in_ok-marked.ensures.marks in
     let p = w.0 in
-    let s = c.in-ok-marked.marked.sheet in
-    let marks = c.least-marking.new.marks in
+    let s = c.in_ok-marked.marked.sheet in
+    let marks = c.least_marking.new.marks in
     let lines = w.2.lines in
     let cells = w.2.cells in
-    let n = c.convert-lines-count.result in
-    let spans = filled_spans p c.args.lines.now c.least-marking.new.lines s.lines w.3 lines in
-    let v = c.convert-lines-count.ensures in
+    let n = c.convert_lines-count.result in
+    let spans = filled_spans p c.args.lines.now c.least_marking.new.lines s.lines w.3 lines in
+    let v = c.convert_lines-count.ensures in
     let same : s.cells - 0 ≡ p.cells = omega arith in
     record {
-      first = c.in-ok-check-tables.ensures.first;
+      first = c.in_ok-check_tables.ensures.first;
       converts = (
         p,
         w.1,
@@ -44,7 +44,7 @@ returns c =
         w.3,
         record { least = w.4.least; rest = w.4.rest; long = w.4.long },
         record {
-          steps = subst (λ k. c.convert-lines-count.new.steps ≡ steps_of (covered_in (take k marks)) 0 0 0 0 p.code ++ drop n c.args.steps.now) same (v.listed p.code spans);
+          steps = subst (λ k. c.convert_lines-count.new.steps ≡ steps_of (covered_in (take k marks)) 0 0 0 0 p.code ++ drop n c.args.steps.now) same (v.listed p.code spans);
           number = subst (λ k. n ≡ length (steps_of (covered_in (take k marks)) 0 0 0 0 p.code)) same (v.number p.code spans);
           most = let m = v.most in omega arith;
         },
