@@ -9,10 +9,10 @@ use Rattle.round.proofs.walking.walk.Goals as goal
 
 pub returns-then-is-over : goal.returns-then-is-over
 returns-then-is-over g c =
-    let v = kind_of g.row.V-Value in
+    let v = kind_of g.V.Value in
     let w = watch_of g.W.Watcher in
     let ts = c.args.steps.now in
-    let s = state_of g.row.V-Value c.loop-done.track c.loop-done.working in
+    let s = state_of g.V.Value c.loop-done.track c.loop-done.working in
     let m = g.W.Watcher.meaning c.loop-done.watcher in
     let h = sym c.if-is-over.ensures in
     let x = halts_after v ts w c.loop-done.done (over_by s.track.broken) s m _ _ c.loop-done.invariant.0 (advanced_over v ts w (c.args.count - c.loop-done.done) s m h) in
@@ -20,11 +20,11 @@ returns-then-is-over g c =
 
 pub returns-then-not-offer : goal.returns-then-not-offer
 returns-then-not-offer g c =
-    let v = kind_of g.row.V-Value in
+    let v = kind_of g.V.Value in
     let h = g.W.Watcher in
     let w = watch_of h in
     let ts = c.args.steps.now in
-    let s = state_of g.row.V-Value c.loop-done.track c.loop-done.working in
+    let s = state_of g.V.Value c.loop-done.track c.loop-done.working in
     let m = h.meaning c.loop-done.watcher in
     let k = c.args.count - c.loop-done.done in
     let e : k ≡ suc (k - 1) = omega arith in
@@ -35,11 +35,11 @@ returns-then-not-offer g c =
 
 pub loop-done-preserved : goal.loop-done-preserved
 loop-done-preserved g c =
-    let v = kind_of g.row.V-Value in
+    let v = kind_of g.V.Value in
     let h = g.W.Watcher in
     let w = watch_of h in
     let ts = c.args.steps.now in
-    let s = state_of g.row.V-Value c.loop-done.track c.loop-done.working in
+    let s = state_of g.V.Value c.loop-done.track c.loop-done.working in
     let m = h.meaning c.loop-done.watcher in
     let n = c.loop-done.done in
     let k = c.args.count - n in

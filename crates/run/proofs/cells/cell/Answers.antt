@@ -4,5 +4,5 @@ use Rattle.run.proofs.cells.cell.Goals as goal
 
 pub returns : goal.returns
 returns g c =
-    let f = g.row.V-Value.meaning in
+    let f = g.V.Value.meaning in
     ap f c.get.ensures ∙ map_get_or f c.args.cells.now c.args.x c.literal.result ∙ ap (get_or (map f c.args.cells.now) c.args.x) c.literal.ensures

@@ -4,5 +4,5 @@ use Rattle.run.proofs.cells.write.Goals as goal
 
 pub returns : goal.returns
 returns g c =
-    let f = g.row.V-Value.meaning in
+    let f = g.V.Value.meaning in
     ap (map f) c.put.ensures ∙ map-set f c.args.cells.now c.args.x c.args.value

@@ -4,25 +4,25 @@ use Rattle.run.specs.Values.{kind_of}
 use Rattle.run.proofs.Taking.{over_stays, over_takes_none, one_more_taken, one_more_step}
 use Rattle.run.proofs.machine.run_steps.Goals as goal
 
-pub returns-then-is-over : goal.returns-then-is-over
-returns-then-is-over g c =
-    let v = kind_of g.row.V-Value in
+pub returns-then-is_over : goal.returns-then-is_over
+returns-then-is_over g c =
+    let v = kind_of g.V.Value in
     let ts = c.args.steps.now in
-    let s = state_of g.row.V-Value c.loop-done.track c.loop-done.cells in
+    let s = state_of g.V.Value c.loop-done.track c.loop-done.cells in
     let n = c.args.budget - c.loop-done.done in
-    let h = sym c.if-is-over.ensures in
+    let h = sym c.if-is_over.ensures in
     let none = over_takes_none v ts s n h in
     record { state = sym (over_stays v ts s n h) ∙ c.loop-done.invariant.0; count = let e = c.loop-done.invariant.1 in omega arith }
 
 pub loop-done-preserved : goal.loop-done-preserved
 loop-done-preserved g c =
-    let v = kind_of g.row.V-Value in
+    let v = kind_of g.V.Value in
     let ts = c.args.steps.now in
-    let s = state_of g.row.V-Value c.loop-done.track c.loop-done.cells in
+    let s = state_of g.V.Value c.loop-done.track c.loop-done.cells in
     let n = c.args.budget - c.loop-done.done in
     let m = c.args.budget - (c.loop-done.done + 1) in
     let e : n ≡ suc m = omega arith in
-    let one = one_more_taken v ts s n m e (sym c.if-is-over.ensures) in
+    let one = one_more_taken v ts s n m e (sym c.if-is_over.ensures) in
     let here = c.step.ensures in (
       ap (steps v ts m) here ∙ sym (one_more_step v ts s n m e) ∙ c.loop-done.invariant.0,
       let t = ap (taken v ts m) here in let i = c.loop-done.invariant.1 in omega arith,
@@ -30,9 +30,9 @@ loop-done-preserved g c =
 
 pub returns : goal.returns
 returns g c =
-    let v = kind_of g.row.V-Value in
+    let v = kind_of g.V.Value in
     let ts = c.args.steps.now in
-    let s = state_of g.row.V-Value c.loop-done.track c.loop-done.cells in
+    let s = state_of g.V.Value c.loop-done.track c.loop-done.cells in
     let e : c.args.budget - c.loop-done.done ≡ 0 = omega arith in
     let none = ap (λ n. taken v ts n s) e in
     record { state = sym (ap (λ n. steps v ts n s) e) ∙ c.loop-done.invariant.0; count = let i = c.loop-done.invariant.1 in omega arith }

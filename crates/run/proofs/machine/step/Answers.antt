@@ -7,4 +7,4 @@ use Rattle.run.proofs.machine.step.Goals as goal
 pub returns : goal.returns
 returns g c =
     c.act.ensures
-    ∙ sym (next_takes (kind_of g.row.V-Value) c.args.steps.now (state_of g.row.V-Value c.args.track.now c.args.cells.now) (sym c.if-is-some.ensures) c.if-place-steps.false _)
+    ∙ sym (next_takes (kind_of g.V.Value) c.args.steps.now (state_of g.V.Value c.args.track.now c.args.cells.now) (sym c.if-is_some.ensures) c.if-place-steps.false _)

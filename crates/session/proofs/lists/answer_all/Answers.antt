@@ -12,7 +12,7 @@ use Rattle.session.proofs.lists.answer_all.Goals as goal
 
 pub loop-i-preserved : goal.loop-i-preserved
 loop-i-preserved g c =
-    let V = g.row.V-Value in
+    let V = g.V.Value in
     let W = g.W.Watcher in
     let w = watch_of W in
     let ts = c.args.steps.now in
@@ -42,7 +42,7 @@ loop-i-preserved g c =
 
 pub returns : goal.returns
 returns g c =
-    let V = g.row.V-Value in
+    let V = g.V.Value in
     let W = g.W.Watcher in
     let w = watch_of W in
     let cs = c.args.calls.now in

@@ -8,7 +8,7 @@ use Rattle.session.proofs.lists.answer_all.Given as goal
 -- the answers so far, and those that the calls left will get, are the answers to all the calls
 abbrev pub invariant-loop-i : goal.invariant-loop-i
 invariant-loop-i g l =
-    let V = g.row.V-Value in
+    let V = g.V.Value in
     let W = g.W.Watcher in
     let t = terms_of V l.initial.round.at l.steps in
     let here = stand_of V W l.round.at l.setter l.working l.watcher in

@@ -20,7 +20,7 @@ returns g c =
       plays = (
         o.program,
         ready o,
-        played g.row.V-Value g.W.Watcher bs before after c.args.tries n m r o (desk_of l.round.at l.setter l.working l.watcher) c.args.setter.now c.args.working.now c.args.watcher.now c.args.calls.now c.args.answers.now l.answers c.answer-all.ensures.hears,
+        played g.V.Value g.W.Watcher bs before after c.args.tries n m r o (desk_of l.round.at l.setter l.working l.watcher) c.args.setter.now c.args.working.now c.args.watcher.now c.args.calls.now c.args.answers.now l.answers c.answer-all.ensures.hears,
       );
       loan = c.answer-all.ensures.loan;
     }

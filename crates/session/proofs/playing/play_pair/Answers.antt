@@ -11,7 +11,7 @@ use Rattle.session.proofs.playing.play_pair.Goals as goal
 
 pub returns : goal.returns
 returns g c =
-    let V = g.row.V-Value in
+    let V = g.V.Value in
     let W = g.W.Watcher in
     let bs = c.args.bytes.now in
     let k = c.args.tries in
