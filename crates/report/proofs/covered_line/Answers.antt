@@ -3,10 +3,10 @@ use Rattle.std.proofs.lemmas.List.{drop_all}
 use Rattle.report.specs.Texts.{covered_from, covered_text}
 use Rattle.report.proofs.Growing.{cell_more, cell_none, whole}
 use Rattle.report.proofs.covered_line.Goals as goal
-use Rattle.report.proofs.covered_line.Goals.{then-mark+in-ok-item+in-ok-push-str, else-mark}
+use Rattle.report.proofs.covered_line.Goals.{then-mark+in_ok-item+in_ok-push_str, else-mark}
 
 pub loop-cell-init : goal.loop-cell-init
-loop-cell-init c = ap (λ y. y ++ covered_from 0 c.args.marks.now) c.in-ok-text.ensures.ok
+loop-cell-init c = ap (λ y. y ++ covered_from 0 c.args.marks.now) c.in_ok-text.ensures.ok
 
 pub loop-cell-preserved : goal.loop-cell-preserved
 loop-cell-preserved c =
@@ -15,9 +15,9 @@ loop-cell-preserved c =
     let i = c.loop-cell.cell-counter in
     let rest = covered_from (i + 1) (drop (i + 1) ms) in
     elim c.if-mark.branch [
-      | then-mark+in-ok-item+in-ok-push-str w ↦
+      | then-mark+in_ok-item+in_ok-push_str w ↦
           ap (λ y. string_bytes y ++ rest) w.text-is
-          ∙ cell_more t (string_bytes w.push-str.new.self) w.as-str.result.now ms i (omega arith) w.if-mark.true (w.as-str.ensures.value ∙ w.in-ok-item.ensures.ok) w.in-ok-push-str.ensures.bytes ∙ c.loop-cell.invariant
+          ∙ cell_more t (string_bytes w.push_str.new.self) w.as_str.result.now ms i (omega arith) w.if-mark.true (w.as_str.ensures.value ∙ w.in_ok-item.ensures.ok) w.in_ok-push_str.ensures.bytes ∙ c.loop-cell.invariant
       | else-mark w ↦ ap (λ y. string_bytes y ++ rest) w.text-is ∙ cell_none t ms i (omega arith) w.if-mark.false ∙ c.loop-cell.invariant
     ]
 

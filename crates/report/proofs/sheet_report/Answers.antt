@@ -13,8 +13,8 @@ returns-in-Ok c =
     let few = w.1.lawful.few in
     let long : length c.convert.new.marks ≡ 64 = w.4.long in
     let path = c.in-Ok.path in
-    IfOk-weaker c.path-report.result
+    IfOk-weaker c.path_report.result
     (λ s. string_bytes s ≡ path_text (take (path.sheet.cells - 0) c.convert.new.marks) (take (path.steps - 0) c.convert.new.steps))
     (λ s. Reports c.args.bytes.now (string_bytes s))
     (λ s h. told c.args.bytes.now (string_bytes s) p w.1 _ c.convert.new.marks w.4 path.sheet.cells w.2.cells (omega arith) _ c.convert.new.steps path.steps w.5 v.first h)
-    c.path-report.ensures
+    c.path_report.ensures

@@ -14,8 +14,8 @@ loop-cell-preserved c =
     let ss = c.args.sets.now in
     let more : i < length ss = omega arith in
     let set : c.index-sets-cell.result ≡ get_or ss i no_origins = get_or_read ss i c.index-sets-cell.result more c.index-sets-cell.is no_origins in
-    line_more (string_bytes c.loop-cell.text) (string_bytes c.push-str.new.self) (string_bytes c.push-str-in-loop-cell.new.self) c.as-str.result.now (codes "\n") ss i more
-    (c.as-str.ensures.value ∙ c.in-ok-line.ensures ∙ ap (origin_text i) set) c.in-ok-push-str.ensures.bytes refl c.in-ok-push-str-2.ensures.bytes ∙ c.loop-cell.invariant
+    line_more (string_bytes c.loop-cell.text) (string_bytes c.push_str.new.self) (string_bytes c.push_str-in-loop-cell.new.self) c.as_str.result.now (codes "\n") ss i more
+    (c.as_str.ensures.value ∙ c.in_ok-line.ensures ∙ ap (origin_text i) set) c.in_ok-push_str.ensures.bytes refl c.in_ok-push_str-2.ensures.bytes ∙ c.loop-cell.invariant
 
 pub returns : goal.returns
 returns c =
