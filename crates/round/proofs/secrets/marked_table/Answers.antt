@@ -13,7 +13,7 @@ loop-i-preserved c =
     let i = c.loop-i.i in
     let table = c.loop-i.table in
     let long = c.loop-i.invariant.0 in
-    let e = c.set-yes.ensures in (
+    let e = c.set_yes.ensures in (
       ap length e ∙ length-set table (get_or list i 0) true ∙ long,
       λ x h.
           ap (λ z. get_or z x false || is_in (drop (i + 1) list) x) e ∙ one_marked table list i x c.loop-i-test.true (omega arith) ∙ c.loop-i.invariant.1 x h,
