@@ -19,14 +19,14 @@ loop-i-preserved g c =
     let cs = c.args.calls.now in
     let i = c.loop-i.i in
     let xs = c.loop-i.answers in
-    let a = c.answer-call-heard.result in
+    let a = c.answer_call-heard.result in
     let d = Put 0 0 in
     let t = terms_of V c.args.round.now.at ts in
     let s = stand_of V W c.loop-i.round.at c.loop-i.setter c.loop-i.working c.loop-i.watcher in
-    let l = c.answer-call-heard.new in
+    let l = c.answer_call-heard.new in
     let s' = stand_of V W l.round.at l.setter l.working l.watcher in
     let (so_far, rest, long, stands, terms, loan) = c.loop-i.invariant in
-    let hears = c.answer-call-heard.ensures.hears in
+    let hears = c.answer_call-heard.ensures.hears in
     let noted = c.note.ensures in
     let h = c.loop-i-test.true in
     let k : i < length xs = omega arith in
@@ -37,7 +37,7 @@ loop-i-preserved g c =
       ap length noted ∙ length-set xs i a ∙ long,
       one_ended t w cs i d s s' h on ∙ stands,
       hears.terms ∙ terms,
-      c.answer-call-heard.ensures.loan ∙ loan,
+      c.answer_call-heard.ensures.loan ∙ loan,
     )
 
 pub returns : goal.returns

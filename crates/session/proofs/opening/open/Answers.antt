@@ -14,16 +14,16 @@ returns g c =
     let bs = c.args.bytes.now in
     let before = tables_of c.args.lines.now c.args.marks.now c.args.steps.now in
     let lent = lent_by before (length c.args.setter.now) (length c.args.working.now) in
-    let none : None ≡ open_fault bs lent c.args.tries = c.in-ok-check-opening.ensures.first in
+    let none : None ≡ open_fault bs lent c.args.tries = c.in_ok-check_opening.ensures.first in
     let pass = passed bs lent c.args.tries (sym none) in
-    let (p, laid, tells, filled, covered, stepped) = c.in-ok-path.ensures.converts in
+    let (p, laid, tells, filled, covered, stepped) = c.in_ok-path.ensures.converts in
     let new = c.of.ensures in
     let rec = c.of.result.at in
     let marks = c.convert.new.marks in
     let cells = tells.cells in
     let same = laid_cells bs p laid in
-    let room : c.in-ok-path.path.sheet.cells - 0 ≡ p.cells = omega arith in
-    let short = short_take (c.in-ok-path.path.sheet.cells - 0) 64 marks (let f = laid.lawful.few in omega arith) in
+    let room : c.in_ok-path.path.sheet.cells - 0 ≡ p.cells = omega arith in
+    let short = short_take (c.in_ok-path.path.sheet.cells - 0) 64 marks (let f = laid.lawful.few in omega arith) in
     record {
       first = none;
       opens = record {
@@ -38,7 +38,7 @@ returns g c =
           cells = new.cells ∙ cells;
           verdict = new.verdict ∙ tells.verdict;
           marked = marks_everywhere p.cells p.marks rec.secrets.marked laid.lawful.rising laid.lawful.few new.long (subst (λ l. Marks l rec.secrets.marked) tells.marks new.marked);
-          covered = λ x. new.covered x ∙ ap (λ z. get_or z x false) (take_all 64 (take (c.in-ok-path.path.sheet.cells - 0) marks) short) ∙ ap (λ k. get_or (take k marks) x false) room;
+          covered = λ x. new.covered x ∙ ap (λ z. get_or z x false) (take_all 64 (take (c.in_ok-path.path.sheet.cells - 0) marks) short) ∙ ap (λ k. get_or (take k marks) x false) room;
           track = new.track;
         };
         setter = pass.setter ∙ same;

@@ -19,32 +19,32 @@ returns g c =
     let before = tables_of c.args.lines.now c.args.marks.now c.args.steps.now in
     let after = tables_of c.open.new.lines c.open.new.marks c.open.new.steps in
     let n = length c.args.first.now in
-    let m = length c.args.first-working.now in
-    let lent = lent_by before (length c.args.second.now) (length c.args.second-working.now) in
-    let passed_first : None ≡ open_fault bs (lent_by before n m) k = c.in-ok-check-opening.ensures.first in
-    let passed-second : None ≡ open_fault bs lent k = c.in-ok-check-opening-2.ensures.first in
-    let o = c.in-ok-round.ensures.opens in
-    let r = c.in-ok-round.round.at in
-    let x = c.answer-all.new in
-    let y = c.answer-all-2.new in
+    let m = length c.args.first_working.now in
+    let lent = lent_by before (length c.args.second.now) (length c.args.second_working.now) in
+    let passed_first : None ≡ open_fault bs (lent_by before n m) k = c.in_ok-check_opening.ensures.first in
+    let passed-second : None ≡ open_fault bs lent k = c.in_ok-check_opening-2.ensures.first in
+    let o = c.in_ok-round.ensures.opens in
+    let r = c.in_ok-round.round.at in
+    let x = c.answer_all.new in
+    let y = c.answer_all-2.new in
     let p = o.program in
     let new = c.again-other.ensures ∙ as_new r k o.new.phase o.new.tries o.new.track (passed bs lent k (sym passed-second)).few in
     let one =
-    played V W bs before after k n m r o (desk_of x.round.at x.setter x.working x.watcher) c.args.first.now c.args.first-working.now c.args.first-watcher.now cs c.args.first-answers.now x.answers c.answer-all.ensures.hears
+    played V W bs before after k n m r o (desk_of x.round.at x.setter x.working x.watcher) c.args.first.now c.args.first_working.now c.args.first_watcher.now cs c.args.first_answers.now x.answers c.answer_all.ensures.hears
     in
     let two =
-    played V W bs before after k n m r o (desk_of y.round.at y.setter y.working y.watcher) c.args.second.now c.args.second-working.now c.args.second-watcher.now cs c.args.second-answers.now y.answers (subst (λ z. HearsAll V W after.steps (desk_of z c.args.second.now c.args.second-working.now c.args.second-watcher.now) (desk_of y.round.at y.setter y.working y.watcher) cs c.args.second-answers.now y.answers) new c.answer-all-2.ensures.hears)
+    played V W bs before after k n m r o (desk_of y.round.at y.setter y.working y.watcher) c.args.second.now c.args.second_working.now c.args.second_watcher.now cs c.args.second_answers.now y.answers (subst (λ z. HearsAll V W after.steps (desk_of z c.args.second.now c.args.second_working.now c.args.second_watcher.now) (desk_of y.round.at y.setter y.working y.watcher) cs c.args.second_answers.now y.answers) new c.answer_all-2.ensures.hears)
     in
     let long = o.working ∙ sym ((passed bs lent k (sym passed-second)).working ∙ laid_cells bs p o.laid) in
     record {
-      first = no_pair_fault bs (lent_by before n m) lent k (length cs) (length c.args.first-answers.now) (length c.args.second-answers.now) passed_first passed-second (omega arith) (omega arith);
+      first = no_pair_fault bs (lent_by before n m) lent k (length cs) (length c.args.first_answers.now) (length c.args.second_answers.now) passed_first passed-second (omega arith) (omega arith);
       plays = (
         p,
         ready o,
         cards_alike V W bs p (covers p after.marks) o.laid o.covered.least k cs
-            (side_of c.args.first.now c.args.first-working.now c.args.first-watcher.now c.args.first-answers.now) (side_of x.setter x.working x.watcher x.answers)
-            (side_of c.args.second.now c.args.second-working.now c.args.second-watcher.now c.args.second-answers.now) (side_of y.setter y.working y.watcher y.answers)
+            (side_of c.args.first.now c.args.first_working.now c.args.first_watcher.now c.args.first_answers.now) (side_of x.setter x.working x.watcher x.answers)
+            (side_of c.args.second.now c.args.second_working.now c.args.second_watcher.now c.args.second_answers.now) (side_of y.setter y.working y.watcher y.answers)
             one two long,
       );
-      loans = (c.answer-all.ensures.loan, c.answer-all-2.ensures.loan);
+      loans = (c.answer_all.ensures.loan, c.answer_all-2.ensures.loan);
     }
