@@ -6,8 +6,8 @@ use Rattle.script.proofs.watching.places_text.Goals as goal
 
 pub loop-place-preserved : goal.loop-place-preserved
 loop-place-preserved c =
-    place_more (string_bytes c.loop-place.text) (string_bytes c.push-str.new.self) c.as-str.result.now c.args.places.now c.loop-place.place-index
-    (omega arith) (c.as-str.ensures.value ∙ c.in-ok-item.ensures.ok) c.in-ok-push-str.ensures.bytes ∙ c.loop-place.invariant
+    place_more (string_bytes c.loop-place.text) (string_bytes c.push_str.new.self) c.as_str.result.now c.args.places.now c.loop-place.place-index
+    (omega arith) (c.as_str.ensures.value ∙ c.in_ok-item.ensures.ok) c.in_ok-push_str.ensures.bytes ∙ c.loop-place.invariant
 
 pub returns : goal.returns
 returns c =
