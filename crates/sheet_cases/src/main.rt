@@ -23,6 +23,8 @@ fn layer_name(fault: ConvertFault) -> &'static str {
         Layer::Marking => "marking",
         Layer::Conversion => "conversion",
         Layer::Running => "running",
+        Layer::Opening => "opening",
+        Layer::Playing => "playing",
     }
 }
 

@@ -2,8 +2,8 @@ use Rattle.std.proofs.Common.{refl, lit<, lit≤}
 use Rattle.sheet.specs.Code.{stop, work, repeat}
 use Rattle.marking.proofs.spread.tests.names_the_origins.Goals as goal
 
-pub mark-lines-passes-requires : goal.mark-lines-passes-requires
-mark-lines-passes-requires c =
+pub mark_lines-passes-requires : goal.mark_lines-passes-requires
+mark_lines-passes-requires c =
     record {
       reads = (
         repeat 0 9 (work 1 0 2 2 stop) stop,

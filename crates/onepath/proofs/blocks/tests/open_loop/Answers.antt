@@ -2,6 +2,6 @@ use Rattle.std.proofs.Common.{refl, arith}
 use Rattle.sheet.specs.Code.{stop, literal, repeat}
 use Rattle.onepath.proofs.blocks.tests.open_loop.Goals as goal
 
-pub convert-lines-count-requires : goal.convert-lines-count-requires
-convert-lines-count-requires c =
+pub convert_lines-count-requires : goal.convert_lines-count-requires
+convert_lines-count-requires c =
     record { reads = (repeat 0 2 (literal 0 0 stop) stop, (2, refl, (refl, refl), refl, refl)); inside = omega arith; few = omega arith; room = omega arith }
