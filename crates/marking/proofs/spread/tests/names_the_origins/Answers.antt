@@ -3,7 +3,7 @@ use Rattle.sheet.specs.Code.{stop, work, repeat}
 use Rattle.marking.proofs.spread.tests.names_the_origins.Goals as goal
 
 pub mark_lines-passes-requires : goal.mark_lines-passes-requires
-mark_lines-passes-requires c =
+mark_lines-passes-requires g c =
     record {
       reads = (
         repeat 0 9 (work 1 0 2 2 stop) stop,

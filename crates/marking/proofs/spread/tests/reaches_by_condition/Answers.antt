@@ -3,7 +3,7 @@ use Rattle.sheet.specs.Code.{stop, work, literal, choose}
 use Rattle.marking.proofs.spread.tests.reaches_by_condition.Goals as goal
 
 pub mark_lines-passes-requires : goal.mark_lines-passes-requires
-mark_lines-passes-requires c =
+mark_lines-passes-requires g c =
     record {
       reads = (
         work 2 0 1 3 (choose 0 (literal 1 5 stop) stop stop),

@@ -3,7 +3,7 @@ use Rattle.sheet.specs.Code.{stop, work, literal, repeat}
 use Rattle.onepath.proofs.blocks.tests.covered_loop.Goals as goal
 
 pub convert_lines-count-requires : goal.convert_lines-count-requires
-convert_lines-count-requires c =
+convert_lines-count-requires g c =
     record {
       reads = (literal 0 1 (repeat 1 3 (work 1 1 1 0 (work 2 0 2 0 stop)) stop), (refl, (4, refl, (refl, (refl, refl)), refl, refl)));
       inside = omega arith;
