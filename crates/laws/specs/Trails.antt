@@ -1,5 +1,5 @@
 -- The simple lines, those that work or state a literal, that a run goes over, in order.
-use Rattle.std.specs.Prelude.{ℕ, zero, suc, ◌+◌, Bool, true, false, cond, List, [], ◌∷◌, ◌++◌, length}
+use Rattle.std.specs.Prelude.{ℕ, zero, suc, ◌+◌, true, false, cond, List, [], ◌∷◌, ◌++◌, length}
 use Rattle.sheet.specs.Code.{Code, stop, work, literal, choose, repeat, size_of}
 use Rattle.onepath.specs.Holds.{step_at}
 use Rattle.onepath.specs.declared.steps.Step.{Step}

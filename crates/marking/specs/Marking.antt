@@ -1,5 +1,5 @@
 -- What marking a sheet promises.
-use Rattle.std.specs.Prelude.{◌≡◌, ℕ, ◌+◌, ◌*◌, ◌≤◌, List, ◌++◌, length, take, drop, Ok, Err, Result}
+use Rattle.std.specs.Prelude.{◌≡◌, ℕ, ◌+◌, ◌*◌, ◌≤◌, List, length, take, drop, Ok, Err, Result}
 use Rattle.sheet.specs.Code.{size_of}
 use Rattle.sheet.specs.Layout.{Program}
 use Rattle.sheet.specs.Reading.{Laid, Tells, Filled}

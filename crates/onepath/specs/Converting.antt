@@ -1,5 +1,5 @@
 -- What converting a sheet promises.
-use Rattle.std.specs.Prelude.{◌≡◌, ℕ, ◌+◌, ◌*◌, ◌≤◌, Bool, true, false, ◌||◌, List, ◌++◌, length, take, drop, Ok, Err, Result}
+use Rattle.std.specs.Prelude.{◌≡◌, ℕ, ◌*◌, ◌≤◌, Bool, true, ◌||◌, List, ◌++◌, length, take, drop, Ok, Err, Result}
 use Rattle.sheet.specs.Code.{size_of}
 use Rattle.sheet.specs.Layout.{Program}
 use Rattle.sheet.specs.Reading.{Laid, Tells, Filled}

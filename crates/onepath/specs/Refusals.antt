@@ -1,5 +1,5 @@
 -- The number, the place and the layer of each refusal of the conversion.
-use Rattle.std.specs.Prelude.{ℕ, ◌*◌, List, Some, None, Option, nat_le}
+use Rattle.std.specs.Prelude.{ℕ, ◌*◌, List, None, Option, nat_le}
 use Rattle.std.specs.Option.{option_map}
 use Rattle.sheet.specs.Checks.{word_at, unless, or_else}
 use Rattle.sheet.specs.declared.faults.Layer.{Layer}

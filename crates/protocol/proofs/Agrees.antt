@@ -1,29 +1,26 @@
 -- A round tells what the plain round tells: where a score is accepted, the one path came to what the branching run
 -- comes to.
-use Rattle.std.proofs.Common.{◌≡◌, ℕ, zero, suc, ◌+◌, Bool, true, false, cond, ◌||◌, eqb, leb, List, [], ◌∷◌, length, take, is_some, Some, None, Option, sym, refl, ap, ◌∙◌, inl, inr, le_refl, arith}
+use Rattle.std.proofs.Common.{◌≡◌, ℕ, zero, suc, ◌+◌, Bool, true, false, ◌||◌, eqb, leb, List, [], ◌∷◌, length, take, is_some, Some, None, Option, sym, refl, ap, ◌∙◌, inl, inr, arith}
 use Rattle.std.proofs.lemmas.Bool.{le-leb, or_right}
 use Rattle.sheet.specs.Checks.{unless}
 use Rattle.sheet.specs.Code.{Code, Keeps}
 use Rattle.onepath.specs.Listed.{steps_of}
 use Rattle.onepath.specs.declared.steps.Step.{Step}
 use Rattle.run.specs.Branching.{Out, went, broke, branching}
-use Rattle.run.specs.Judging.{verdict_of, verdict_by, blamed, path_verdict}
+use Rattle.run.specs.Judging.{verdict_of, path_verdict}
 use Rattle.laws.specs.Laws.{ComesTo}
 use Rattle.run.specs.Machine.{State, is_over, steps, fresh}
-use Rattle.run.specs.Values.{Values, is_true}
-use Rattle.run.specs.declared.verdicts.Verdict.{Verdict}
-use Rattle.run.specs.declared.verdicts.Verdict.TheVariants.{Right, Wrong}
+use Rattle.run.specs.Values.{Values}
 use Rattle.laws.proofs.Following.{steps_both}
 use Rattle.run.proofs.Taking.{over_stays}
 use Rattle.laws.proofs.Whole.{agreement}
-use Rattle.protocol.specs.Calls.{is_in_play, refusal, score_of, path_score, accepted, moved, reported, after, answer}
-use Rattle.protocol.specs.Plain.{Told, Plain, tells, kept, branching_score, plain_after, plain_tells}
+use Rattle.protocol.specs.Calls.{is_in_play, refusal, score_of, path_score, accepted, moved, reported, answer}
+use Rattle.protocol.specs.Plain.{Plain, tells, kept, branching_score, plain_after, plain_tells}
 use Rattle.protocol.specs.Stands.{Stand}
 use Rattle.protocol.specs.Terms.{Terms}
 use Rattle.protocol.specs.Watching.{Watching}
 use Rattle.protocol.specs.declared.answers.Answer.{Answer}
 use Rattle.protocol.specs.declared.answers.Answer.TheVariants.{Scored}
-use Rattle.protocol.specs.declared.answers.Score.{Score}
 use Rattle.protocol.specs.declared.calls.Call.{Call}
 use Rattle.protocol.specs.declared.calls.Call.TheVariants.{Put, Start, Advance, Look, Withdraw, Score as AskScore}
 use Rattle.protocol.specs.declared.calls.Phase.{Phase}

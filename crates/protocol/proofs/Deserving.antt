@@ -5,19 +5,17 @@ use Rattle.run.specs.Branching.{Out, went, broke, branching}
 use Rattle.run.specs.Judging.{verdict_of}
 use Rattle.run.specs.Values.{Values, is_true, stated}
 use Rattle.run.specs.declared.verdicts.Verdict.TheVariants.{Right as RightVerdict, Wrong as WrongVerdict}
-use Rattle.protocol.specs.Calls.{is_in_play, refusal, score_of, accepted, says, moved, reported, after, answer}
+use Rattle.protocol.specs.Calls.{is_in_play, refusal, score_of, accepted, moved, reported, after, answer}
 use Rattle.protocol.specs.Plain.{Plain, kept, branching_score, plain_after, plain_tells}
 use Rattle.protocol.specs.Promise.{Deserves, Deserved, Scores, laid, begun, answers_of, is_refused}
 use Rattle.protocol.specs.Stands.{Stand}
 use Rattle.protocol.specs.Terms.{Terms, terms_for}
 use Rattle.protocol.specs.Watching.{Watching}
 use Rattle.protocol.specs.declared.answers.Answer.{Answer}
-use Rattle.protocol.specs.declared.answers.Answer.TheVariants.{Done, Left, Walked, Shown, Scored, Refused}
-use Rattle.protocol.specs.declared.answers.Score.{Score}
-use Rattle.protocol.specs.declared.answers.Score.TheVariants.{Right, Wrong, Void}
+use Rattle.protocol.specs.declared.answers.Answer.TheVariants.{Done, Left, Walked, Shown, Scored}
 use Rattle.protocol.specs.declared.calls.Call.{Call}
 use Rattle.protocol.specs.declared.calls.Call.TheVariants.{Put, Start, Advance, Look, Withdraw, Score as AskScore}
-use Rattle.protocol.specs.declared.calls.Phase.TheVariants.{Laying, InPlay}
+use Rattle.protocol.specs.declared.calls.Phase.TheVariants.{InPlay}
 use Rattle.protocol.specs.declared.refusals.Refusal.{Refusal}
 use Rattle.protocol.specs.declared.refusals.Refusal.TheVariants.{Phase as WrongPhase}
 use Rattle.protocol.proofs.Agrees.{unless_none, in_play_lem, not_laying}

@@ -1,25 +1,22 @@
 -- Two rounds that differ in marked cells only tell the same, but for accepted scores.
-use Rattle.std.proofs.Common.{◌≡◌, ℕ, zero, suc, ◌+◌, Bool, true, false, cond, not, ◌||◌, eqb, ltb, leb, List, [], ◌∷◌, map, length, get_or, set, is_some, Some, None, Option, sym, refl, ap, ◌∙◌, arith}
+use Rattle.std.proofs.Common.{◌≡◌, ℕ, zero, suc, ◌+◌, Bool, true, false, cond, not, ◌||◌, eqb, ltb, List, [], ◌∷◌, map, length, Some, None, Option, sym, refl, ap, ◌∙◌, arith}
 use Rattle.std.proofs.lemmas.Bool.{not-true}
-use Rattle.std.proofs.lemmas.List.{length-set}
 use Rattle.sheet.specs.Checks.{unless}
 use Rattle.sheet.specs.Code.{Code}
 use Rattle.marking.specs.Rules.{Follows}
 use Rattle.onepath.specs.Listed.{steps_of}
-use Rattle.onepath.specs.declared.steps.Step.{Step}
 use Rattle.laws.specs.Laws.{Alike}
 use Rattle.run.specs.Machine.{State, is_over, next, steps, fresh}
-use Rattle.run.specs.Values.{Values, cell_at}
 use Rattle.laws.proofs.Together.{lockstep, alike_same}
 use Rattle.protocol.specs.Advancing.{Walk, advanced, over_by, halted, later}
-use Rattle.protocol.specs.Calls.{is_in_play, refusal, accepted, says, moved, reported, after, answer, walk_from, told_of}
-use Rattle.protocol.specs.Plain.{Told, Plain, kept, plain_after, plain_tells}
-use Rattle.protocol.specs.Promise.{shared, Card, card_of}
+use Rattle.protocol.specs.Calls.{is_in_play, refusal, accepted, says, moved, reported, after, answer, told_of}
+use Rattle.protocol.specs.Plain.{Plain, kept, plain_after, plain_tells}
+use Rattle.protocol.specs.Promise.{shared, card_of}
 use Rattle.protocol.specs.Stands.{Stand}
 use Rattle.protocol.specs.Terms.{Terms}
 use Rattle.protocol.specs.Watching.{Watching}
 use Rattle.protocol.specs.declared.answers.Answer.{Answer}
-use Rattle.protocol.specs.declared.answers.Answer.TheVariants.{Done, Left, Walked, Shown, Scored, Refused}
+use Rattle.protocol.specs.declared.answers.Answer.TheVariants.{Walked, Shown}
 use Rattle.protocol.specs.declared.answers.Ending.{Ending}
 use Rattle.protocol.specs.declared.answers.Ending.TheVariants.{Paused, Stopped}
 use Rattle.protocol.specs.declared.answers.Score.{Score}
@@ -28,7 +25,7 @@ use Rattle.protocol.specs.declared.calls.Call.TheVariants.{Put, Start, Advance, 
 use Rattle.protocol.specs.declared.calls.Phase.{Phase}
 use Rattle.protocol.specs.declared.calls.Phase.TheVariants.{Laying, InPlay}
 use Rattle.protocol.specs.declared.refusals.Refusal.{Refusal}
-use Rattle.protocol.specs.declared.refusals.Refusal.TheVariants.{SetterCells, WorkingCells, NoCell, Marked, Covered, Phase as WrongPhase, NoTries, Early}
+use Rattle.protocol.specs.declared.refusals.Refusal.TheVariants.{WorkingCells, NoCell, Covered, Phase as WrongPhase, Early}
 use Rattle.protocol.proofs.Advances.{next_steps}
 use Rattle.protocol.proofs.Agrees.{unless_none, in_play_lem, not_laying}
 

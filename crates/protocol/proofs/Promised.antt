@@ -8,7 +8,6 @@ use Rattle.sheet.proofs.Sole.{sole}
 use Rattle.marking.specs.Rules.{Owns, Least}
 use Rattle.laws.specs.Laws.{Alike}
 use Rattle.run.specs.Values.{Values}
-use Rattle.protocol.specs.Calls.{after}
 use Rattle.protocol.specs.Plain.{Told, Plain, opened, tells, plain_round}
 use Rattle.protocol.specs.Promise.{Promise, card_of}
 use Rattle.protocol.specs.Terms.{Terms, is_in, terms_for}

@@ -1,5 +1,5 @@
 -- Advancing a run under a watcher's eyes.
-use Rattle.std.specs.Prelude.{ℕ, zero, suc, ◌+◌, Bool, true, false, cond, List, length, Some, None, Option}
+use Rattle.std.specs.Prelude.{ℕ, zero, suc, ◌+◌, cond, List, length, Some, None, Option}
 use Rattle.onepath.specs.declared.steps.Step.{Step}
 use Rattle.run.specs.Machine.{State, is_over, next}
 use Rattle.run.specs.Values.{Values}

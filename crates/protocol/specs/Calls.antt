@@ -1,5 +1,5 @@
 -- What a round refuses, what it does when it accepts, and what it answers.
-use Rattle.std.specs.Prelude.{◌≡◌, ℕ, ◌-◌, Bool, true, false, cond, not, List, length, Some, None, Ok, Err, Option, Result, ◌==◌, nat_lt}
+use Rattle.std.specs.Prelude.{◌≡◌, ℕ, ◌-◌, Bool, true, false, not, length, Some, None, Ok, Err, Option, Result, ◌==◌, nat_lt}
 use Rattle.sheet.specs.Checks.{unless}
 use Rattle.run.specs.Judging.{path_verdict}
 use Rattle.run.specs.Machine.{State, is_over, fresh}

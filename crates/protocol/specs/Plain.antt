@@ -11,7 +11,7 @@ use Rattle.protocol.specs.Terms.{Terms}
 use Rattle.protocol.specs.Watching.{Watching}
 use Rattle.protocol.specs.declared.answers.Answer.{Answer}
 use Rattle.protocol.specs.declared.answers.Score.{Score}
-use Rattle.protocol.specs.declared.answers.Score.TheVariants.{Right, Wrong, Void}
+use Rattle.protocol.specs.declared.answers.Score.TheVariants.{Wrong}
 use Rattle.protocol.specs.declared.calls.Call.{Call}
 use Rattle.protocol.specs.declared.calls.Call.TheVariants.{Put, Start, Advance, Look, Withdraw, Score as AskScore}
 use Rattle.protocol.specs.declared.calls.Phase.TheVariants.{Laying}

@@ -12,7 +12,7 @@ use Rattle.protocol.specs.Watching.{Watching}
 use Rattle.protocol.specs.declared.answers.Answer.{Answer}
 use Rattle.protocol.specs.declared.answers.Answer.TheVariants.{Done, Left, Walked, Shown, Scored, Refused}
 use Rattle.protocol.specs.declared.answers.Score.{Score}
-use Rattle.protocol.specs.declared.answers.Score.TheVariants.{Right, Wrong, Void}
+use Rattle.protocol.specs.declared.answers.Score.TheVariants.{Right, Void}
 use Rattle.protocol.specs.declared.calls.Call.{Call}
 use Rattle.protocol.specs.declared.calls.Call.TheVariants.{Put, Start, Advance, Look, Withdraw, Score as AskScore}
 

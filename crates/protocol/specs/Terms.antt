@@ -1,5 +1,5 @@
 -- What an opening fixes for its round.
-use Rattle.std.specs.Prelude.{ℕ, Bool, true, false, ◌||◌, List, [], ◌∷◌, ◌==◌}
+use Rattle.std.specs.Prelude.{ℕ, Bool, false, ◌||◌, List, [], ◌∷◌, ◌==◌}
 use Rattle.sheet.specs.Layout.{Program}
 use Rattle.onepath.specs.Listed.{steps_of}
 use Rattle.onepath.specs.declared.steps.Step.{Step}

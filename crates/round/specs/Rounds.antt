@@ -1,5 +1,5 @@
 -- A round's record, with what is lent to it, as a round that stands on its terms.
-use Rattle.std.specs.Prelude.{◌≡◌, ℕ, ◌-◌, min, Bool, true, false, List, [], map, length, take, None, Option, slice_index_or}
+use Rattle.std.specs.Prelude.{◌≡◌, ℕ, ◌-◌, min, Bool, false, List, [], map, length, take, None, Option, slice_index_or}
 use Rattle.onepath.specs.declared.paths.OnePath.{OnePath}
 use Rattle.onepath.specs.declared.steps.Step.{Step}
 use Rattle.value.specs.declared.kinds.Value.{Ghosts}

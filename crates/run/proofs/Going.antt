@@ -1,5 +1,5 @@
 -- The branching run, construct by construct.
-use Rattle.std.proofs.Common.{◌≡◌, ℕ, suc, ◌+◌, Bool, true, false, cond, List, sym, refl, ap, ◌∙◌, subst}
+use Rattle.std.proofs.Common.{◌≡◌, ℕ, suc, ◌+◌, Bool, true, false, List, sym, refl, ap, ◌∙◌}
 use Rattle.sheet.specs.Code.{Code, choose, repeat, size_of}
 use Rattle.run.specs.Values.{Values, is_true}
 use Rattle.run.specs.Branching.{Out, went, broke, after, passes, branching}

@@ -1,5 +1,5 @@
 -- The branching run.
-use Rattle.std.specs.Prelude.{ℕ, zero, suc, ◌+◌, Bool, true, false, cond, List, Some, None, Option}
+use Rattle.std.specs.Prelude.{ℕ, zero, suc, ◌+◌, true, false, cond, List, Some, None, Option}
 use Rattle.sheet.specs.Code.{Code, stop, work, literal, choose, repeat, size_of}
 use Rattle.run.specs.Values.{Values, is_true, worked, stated}
 

@@ -1,5 +1,5 @@
 -- What judging a sheet promises.
-use Rattle.std.specs.Prelude.{◌≡◌, ℕ, Bool, cond, List, map, Some, None, Ok, Err, Option, Result}
+use Rattle.std.specs.Prelude.{◌≡◌, ℕ, cond, List, map, Some, None, Ok, Err, Option, Result}
 use Rattle.sheet.specs.Layout.{Program}
 use Rattle.sheet.specs.Reading.{Laid, Filled}
 use Rattle.sheet.specs.declared.lines.Line.{Line}

@@ -1,9 +1,8 @@
 -- Whose each step is; a track after the close of a covered loop and after the test of an open one.
-use Rattle.std.specs.Prelude.{ℕ, ◌-◌, Bool, true, false, cond, ◌&&◌, Some, None, Option, ◌==◌}
+use Rattle.std.specs.Prelude.{ℕ, ◌-◌, Bool, cond, ◌&&◌, Some, ◌==◌}
 use Rattle.onepath.specs.declared.steps.Step.{Step}
 use Rattle.onepath.specs.declared.steps.Step.TheVariants.{Work, Literal, Ask, Turn, Setout, Narrow, Again, Close, Branch, Jump, Enter, Test}
 use Rattle.run.specs.Machine.{flag_at, guard_at, loop_at, looped, counted_on, closing}
-use Rattle.run.specs.declared.registers.Registers.{Registers}
 use Rattle.run.specs.declared.track.Track.{Track}
 
 -- whose step it is: a simple line's, a covered construct's or an open one's

@@ -1,5 +1,5 @@
 -- The number, the place and the layer of each refusal of the branching run.
-use Rattle.std.specs.Prelude.{ℕ, List, Some, None, Option, ◌==◌}
+use Rattle.std.specs.Prelude.{ℕ, List, None, Option, ◌==◌}
 use Rattle.std.specs.Option.{option_map}
 use Rattle.sheet.specs.Checks.{word_at, unless, or_else, read_fault}
 use Rattle.sheet.specs.Refusals.{number_of as read_number, place_of as read_place, layer_of as read_layer}

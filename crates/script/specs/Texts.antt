@@ -1,7 +1,6 @@
 -- The words that answers and watchers are printed in.
 use Rattle.std.specs.Prelude.{ℕ, Bool, true, false, List, [], ◌∷◌, ◌++◌, codes, decimal}
 use Rattle.protocol.specs.Numbers.{number_of, place_of}
-use Rattle.protocol.specs.declared.answers.Advanced.{Advanced}
 use Rattle.protocol.specs.declared.answers.Answer.{Answer}
 use Rattle.protocol.specs.declared.answers.Answer.TheVariants.{Done, Left, Walked, Shown, Scored, Refused}
 use Rattle.protocol.specs.declared.answers.Ending.{Ending}

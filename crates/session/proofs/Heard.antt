@@ -4,9 +4,8 @@ use Rattle.std.proofs.lemmas.List.{length-map}
 use Rattle.onepath.specs.declared.steps.Step.{Step}
 use Rattle.value.specs.declared.kinds.Value.{Ghosts}
 use Rattle.watch.specs.declared.watchers.Watcher.{Ghosts as WatcherGhosts}
-use Rattle.run.specs.Machine.{State, state_of}
+use Rattle.run.specs.Machine.{state_of}
 use Rattle.run.specs.Values.{kind_of, cell_at, stated}
-use Rattle.run.specs.declared.track.Track.{Track}
 use Rattle.protocol.specs.Advancing.{Walk}
 use Rattle.protocol.specs.Calls.{refusal, accepted, told_of, path_score, moved, answered, reported, says, after}
 use Rattle.protocol.specs.Stands.{Stand}
@@ -18,7 +17,7 @@ use Rattle.protocol.specs.declared.answers.Answer.TheVariants.{Done, Left, Walke
 use Rattle.protocol.specs.declared.answers.Score.{Score}
 use Rattle.protocol.specs.declared.calls.Call.{Call}
 use Rattle.protocol.specs.declared.calls.Call.TheVariants.{Put, Start, Advance, Look, Withdraw, Score as AskScore}
-use Rattle.protocol.specs.declared.calls.Phase.TheVariants.{Laying, InPlay}
+use Rattle.protocol.specs.declared.calls.Phase.TheVariants.{Laying}
 use Rattle.protocol.specs.declared.refusals.Refusal.{Refusal}
 use Rattle.session.specs.Lists.{recorded, desk_of, Hears}
 use Rattle.round.specs.Rounds.{terms_of, stand_of, phased, tracked, started, put_says, start_says, advance_says, look_says, withdraw_says, score_says, walk_of}

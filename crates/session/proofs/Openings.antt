@@ -1,8 +1,8 @@
 -- What is known once an opening's checks are passed.
-use Rattle.std.proofs.Common.{◌≡◌, ℕ, zero, suc, ◌-◌, ◌≤◌, min, Bool, true, ◌&&◌, eqb, leb, List, [], ◌∷◌, length, take, Some, None, Option, sym, refl, ap, ◌∙◌, arith}
+use Rattle.std.proofs.Common.{◌≡◌, ℕ, zero, suc, ◌-◌, ◌≤◌, min, ◌&&◌, eqb, leb, List, [], ◌∷◌, length, take, Some, None, Option, sym, ap, ◌∙◌, arith}
 use Rattle.std.proofs.lemmas.Bool.{eqb-true, leb-true, and_parts}
 use Rattle.std.specs.Option.{option_map}
-use Rattle.sheet.specs.Checks.{word_at, unless, or_else}
+use Rattle.sheet.specs.Checks.{word_at, or_else}
 use Rattle.onepath.specs.Refusals.{convert_fault}
 use Rattle.protocol.proofs.Agrees.{unless_none}
 use Rattle.protocol.specs.declared.calls.Phase.TheVariants.{Laying}

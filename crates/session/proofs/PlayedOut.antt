@@ -15,7 +15,6 @@ use Rattle.onepath.specs.declared.steps.Step.{Step}
 use Rattle.value.specs.declared.kinds.Value.{Ghosts}
 use Rattle.watch.specs.declared.watchers.Watcher.{Ghosts as WatcherGhosts}
 use Rattle.laws.specs.Laws.{Alike}
-use Rattle.run.specs.Machine.{state_of}
 use Rattle.run.specs.Values.{Values, kind_of}
 use Rattle.protocol.specs.Calls.{after}
 use Rattle.protocol.specs.Plain.{Told, opened, tells, ends, plain_round}
@@ -27,10 +26,10 @@ use Rattle.protocol.specs.declared.answers.Answer.{Answer}
 use Rattle.protocol.specs.declared.calls.Call.{Call}
 use Rattle.protocol.proofs.Promised.{promised}
 use Rattle.session.specs.Lists.{Desk, desk_of, HearsAll, list_fault}
-use Rattle.session.specs.Opening.{Tables, New, Opened}
+use Rattle.session.specs.Opening.{Tables, Opened}
 use Rattle.session.specs.Playing.{Side, side_of, last_of, play_fault, pair_fault, Ready, Played, CardsAlike}
 use Rattle.session.specs.Refusals.{open_fault}
-use Rattle.round.specs.Rounds.{terms_of, stand_of, at_first}
+use Rattle.round.specs.Rounds.{terms_of, stand_of}
 use Rattle.session.specs.declared.faults.PlayFault.TheVariants.{Open}
 use Rattle.session.specs.declared.opening.Lent.{Lent}
 use Rattle.round.specs.declared.records.Record.{Record}

@@ -1,5 +1,5 @@
 -- What a round promises of one call record, and of a list of them.
-use Rattle.std.specs.Prelude.{◌≡◌, ℕ, Bool, true, false, cond, List, ◌++◌, length, drop, None, Ok, Err, Option, Result, nat_le}
+use Rattle.std.specs.Prelude.{◌≡◌, ℕ, List, ◌++◌, length, drop, None, Ok, Err, Option, Result, nat_le}
 use Rattle.sheet.specs.Checks.{unless}
 use Rattle.onepath.specs.declared.steps.Step.{Step}
 use Rattle.value.specs.declared.kinds.Value.{Ghosts}

@@ -1,15 +1,13 @@
 -- What an opening promises.
-use Rattle.std.specs.Prelude.{◌≡◌, ℕ, ◌≤◌, Bool, false, List, length, Ok, Err, Result, slice_index_or}
+use Rattle.std.specs.Prelude.{◌≡◌, ℕ, Bool, false, List, length, Ok, Err, Result, slice_index_or}
 use Rattle.sheet.specs.Layout.{Program}
 use Rattle.sheet.specs.Reading.{Laid, Filled}
 use Rattle.sheet.specs.declared.lines.Line.{Line}
 use Rattle.onepath.specs.Converting.{covers, Covered, Stepped}
-use Rattle.onepath.specs.declared.paths.OnePath.{OnePath}
 use Rattle.onepath.specs.declared.steps.Step.{Step}
 use Rattle.protocol.specs.Terms.{is_in}
 use Rattle.protocol.specs.declared.calls.Phase.TheVariants.{Laying}
 use Rattle.round.specs.Rounds.{at_first}
-use Rattle.round.specs.Tables.{Marks, Pads}
 use Rattle.session.specs.declared.opening.Lent.{Lent}
 use Rattle.session.specs.declared.faults.OpenFault.{OpenFault}
 use Rattle.round.specs.declared.records.Record.{Record}

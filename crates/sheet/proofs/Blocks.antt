@@ -1,7 +1,7 @@
 -- What the first byte of a block says of its code.
-use Rattle.std.proofs.Common.{◌≡◌, ℕ, suc, ◌+◌, ◌-◌, ◌*◌, ◌/◌, ◌%◌, ◌<◌, ◌≤◌, ◌⊎◌, List, [], ◌∷◌, ◌++◌, length, get_or, sym, refl, ap, ◌∙◌, subst, inl, inr, ⊎_elim, arith}
+use Rattle.std.proofs.Common.{◌≡◌, ℕ, ◌+◌, ◌*◌, ◌/◌, ◌%◌, ◌<◌, ◌≤◌, ◌⊎◌, List, ◌∷◌, ◌++◌, length, get_or, refl, ap, ◌∙◌, subst, inl, inr, ⊎_elim, arith}
 use Rattle.sheet.specs.Code.{Code, stop, work, literal, choose, repeat, size_of}
-use Rattle.sheet.specs.Layout.{work_bytes, literal_bytes, other_bytes, code_bytes}
+use Rattle.sheet.specs.Layout.{other_bytes, code_bytes}
 use Rattle.sheet.specs.Checks.{byte_at}
 use Rattle.sheet.specs.Filling.{Begins}
 use Rattle.sheet.proofs.Stands.{Stands, stands_split, stands_moved}

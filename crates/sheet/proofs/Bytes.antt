@@ -1,12 +1,10 @@
 -- The bytes of one line: what the rules of its kind say of them.
-use Rattle.std.proofs.Common.{◌≡◌, ℕ, ◌+◌, ◌-◌, ◌*◌, ◌/◌, ◌%◌, ◌^◌, ◌<◌, ◌≤◌, Bool, true, false, cond, eqb, ltb, leb, ◌⊎◌, List, [], ◌∷◌, ◌++◌, length, get_or, Some, None, Ok, Err, Option, Result, sym, refl, ap, ◌∙◌, subst, inl, inr, arith}
-use Rattle.std.proofs.lemmas.Bool.{and_parts, eqb-true, eqb-false, ltb-true, leb-true, eq-eqb, lt-ltb, le-leb}
+use Rattle.std.proofs.Common.{◌≡◌, ℕ, ◌+◌, ◌*◌, ◌^◌, ◌<◌, ◌≤◌, Bool, true, false, cond, eqb, leb, List, [], ◌∷◌, Some, None, Option, refl, ap, ◌∙◌, arith}
+use Rattle.std.proofs.lemmas.Bool.{and_parts, eqb-true, eqb-false, ltb-true, leb-true}
 use Rattle.sheet.specs.Layout.{work_bytes, literal_bytes, other_bytes}
-use Rattle.sheet.specs.Checks.{byte_at, unless, or_else, rules_of, obeys, bytes_fault, nested, placed, faulted, line_says}
+use Rattle.sheet.specs.Checks.{byte_at, unless, or_else, rules_of, obeys, bytes_fault}
 use Rattle.sheet.specs.Results.{Bytes}
 use Rattle.sheet.specs.declared.faults.ReadFault.{ReadFault}
-use Rattle.sheet.specs.declared.faults.ReadFault.TheVariants.{Byte, Nesting}
-use Rattle.sheet.specs.declared.nesting.Open.{Open}
 use Rattle.sheet.specs.declared.rules.Rule.{Rule}
 use Rattle.sheet.specs.declared.rules.Rule.TheVariants.{Kind, Cell, Operation, Bound, Any, Zero}
 use Rattle.sheet.proofs.Stands.{Stands}

@@ -1,12 +1,11 @@
 -- The layout of a program has no fault.
-use Rattle.std.proofs.Common.{◌≡◌, ℕ, zero, suc, ◌+◌, ◌-◌, ◌*◌, ◌/◌, ◌%◌, ◌^◌, ◌<◌, ◌≤◌, Bool, true, false, cond, eqb, ltb, leb, List, [], ◌∷◌, ◌++◌, length, get_or, take, drop, Some, None, Ok, Err, Option, Result, sym, refl, ap, ◌∙◌, subst, arith}
+use Rattle.std.proofs.Common.{◌≡◌, ℕ, suc, ◌+◌, ◌-◌, ◌*◌, ◌/◌, ◌%◌, ◌<◌, ◌≤◌, cond, List, [], ◌∷◌, ◌++◌, length, Some, None, Ok, sym, refl, ap, ◌∙◌, subst, arith}
 use Rattle.std.proofs.lemmas.Bool.{eq-eqb, lt-ltb, le-leb}
 use Rattle.std.proofs.lemmas.List.{length-append}
 use Rattle.sheet.specs.Code.{Code, stop, work, literal, choose, repeat, size_of, Keeps}
-use Rattle.sheet.specs.Layout.{Program, Lawful, Rising, two, work_bytes, literal_bytes, other_bytes, code_bytes, header, sheet_bytes}
-use Rattle.sheet.specs.Checks.{byte_at, word_at, unless, or_else, header_of, limit_fault, offset_fault, marks_fault, rules_of, obeys, bytes_fault, opened, nested, placed, faulted, line_says, lines_fault, sheet_fault}
+use Rattle.sheet.specs.Layout.{Program, Lawful, Rising, work_bytes, literal_bytes, other_bytes, code_bytes, header, sheet_bytes}
+use Rattle.sheet.specs.Checks.{byte_at, word_at, or_else, header_of, limit_fault, offset_fault, marks_fault, rules_of, bytes_fault, opened, nested, placed, faulted, line_says, lines_fault, sheet_fault}
 use Rattle.sheet.specs.Reading.{Laid}
-use Rattle.sheet.specs.declared.faults.ReadFault.{ReadFault}
 use Rattle.sheet.specs.declared.nesting.Open.{Open}
 use Rattle.sheet.specs.declared.nesting.Open.TheVariants.{First, Second, Body}
 use Rattle.sheet.proofs.Stands.{Stands, stands_split, stands_moved, stands_self}

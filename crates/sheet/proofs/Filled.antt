@@ -1,14 +1,14 @@
 -- What filling a line, an if or a loop in, and then the rest of the block, leaves of the table.
-use Rattle.std.proofs.Common.{◌≡◌, ℕ, ◌+◌, ◌-◌, ◌*◌, ◌<◌, ◌≤◌, ◌≢◌, ◌⊎◌, List, [], ◌∷◌, ◌++◌, length, get_or, set, sym, refl, ap, ◌∙◌, subst, inl, inr, ⊎_elim, arith}
+use Rattle.std.proofs.Common.{◌≡◌, ℕ, ◌+◌, ◌*◌, ◌<◌, ◌≤◌, ◌≢◌, List, length, set, sym, refl, ap, ◌∙◌, subst, inl, inr, ⊎_elim, arith}
 use Rattle.std.proofs.lemmas.List.{get_or-set_same, get_or-set_other, length-set}
 use Rattle.sheet.specs.Code.{Code, stop, work, literal, choose, repeat, size_of}
 use Rattle.sheet.specs.Checks.{byte_at}
 use Rattle.sheet.specs.Spans.{line_at, Spans}
-use Rattle.sheet.specs.Filling.{Begins, FilledFrom, Onward, Stepped}
+use Rattle.sheet.specs.Filling.{Begins, FilledFrom, Stepped}
 use Rattle.sheet.specs.declared.lines.Line.{Line}
 use Rattle.sheet.specs.declared.lines.Line.TheVariants.{Work, Literal, If, Else, End, Loop}
 use Rattle.sheet.proofs.Heads.{spans_le}
-use Rattle.sheet.proofs.Blocks.{line_byte, HasWork, HasLiteral, HasIf, HasLoop, has_work, has_literal, has_if, has_loop, has_none, at_end}
+use Rattle.sheet.proofs.Blocks.{line_byte, has_work, has_literal, has_if, has_loop}
 
 -- a write, read there and elsewhere
 pub wrote : (ts : List Line) (i : ℕ) (l : Line) → i < length ts → line_at (set ts i l) i ≡ l

@@ -1,11 +1,11 @@
 -- The line table by places, `Spans`, and as a list, `lines_of`, are the same table.
-use Rattle.std.proofs.Common.{◌≡◌, ℕ, suc, ◌+◌, ◌<◌, ◌≤◌, List, [], ◌∷◌, ◌++◌, length, get_or, sym, refl, ap, ◌∙◌, subst, arith}
+use Rattle.std.proofs.Common.{◌≡◌, ℕ, ◌+◌, List, [], ◌∷◌, ◌++◌, length, sym, refl, ap, ◌∙◌, subst, arith}
 use Rattle.std.proofs.lemmas.List.{length-append}
 use Rattle.sheet.specs.Code.{Code, stop, work, literal, choose, repeat, size_of}
 use Rattle.sheet.specs.Table.{lines_of}
 use Rattle.sheet.specs.Spans.{line_at, Spans}
 use Rattle.sheet.specs.declared.lines.Line.{Line}
-use Rattle.sheet.specs.declared.lines.Line.TheVariants.{Work, Literal, If, Else, End, Loop}
+use Rattle.sheet.specs.declared.lines.Line.TheVariants.{Work, If, Else, End, Loop}
 use Rattle.sheet.proofs.Stands.{Stands, stands_split, stands_append, stands_in, stands_moved}
 use Rattle.sheet.proofs.Heads.{spans_size}
 

@@ -1,11 +1,10 @@
 -- The moves of the record of open constructs, on a stack in an array of six.
-use Rattle.std.proofs.Common.{◌≡◌, ℕ, ◌+◌, ◌-◌, ◌<◌, ◌≤◌, Bool, true, false, cond, ltb, List, [], ◌∷◌, ◌++◌, reverse, length, get_or, take, set, Some, None, Option, sym, refl, ap, ◌∙◌, subst, arith}
-use Rattle.std.proofs.lemmas.List.{get_or-set_same, take-set, length-set}
+use Rattle.std.proofs.Common.{◌≡◌, ℕ, ◌+◌, ◌-◌, ◌<◌, ◌≤◌, Bool, true, false, cond, ltb, List, ◌∷◌, length, get_or, set, Some, None, sym, refl, ap, ◌∙◌, subst, arith}
 use Rattle.std.proofs.lemmas.Bool.{lt-ltb}
 use Rattle.sheet.specs.Checks.{opened, turned, closed}
 use Rattle.sheet.specs.Nests.{Moves}
 use Rattle.sheet.specs.declared.nesting.Open.{Open}
-use Rattle.sheet.specs.declared.nesting.Open.TheVariants.{First, Second, Body}
+use Rattle.sheet.specs.declared.nesting.Open.TheVariants.{First}
 use Rattle.sheet.proofs.Stacks.{stack, stack_length, stack_push, stack_top}
 
 module _ (xs : List Open) (n : ℕ) (six : length xs ≡ 6) where

@@ -1,5 +1,5 @@
 -- How far into a sheet the place of a fault can lie.
-use Rattle.std.proofs.Common.{◌≡◌, ℕ, zero, suc, ◌+◌, ◌-◌, ◌*◌, ◌<◌, ◌≤◌, Bool, true, false, eqb, ltb, leb, ◌⊎◌, List, [], ◌∷◌, length, Some, None, Ok, Err, Option, Result, sym, refl, ap, ◌∙◌, subst, inl, inr, ⊎_elim, arith}
+use Rattle.std.proofs.Common.{◌≡◌, ℕ, zero, suc, ◌+◌, ◌*◌, ◌≤◌, Bool, true, false, eqb, ltb, leb, List, [], ◌∷◌, length, Some, None, Ok, Err, Option, Result, refl, ap, subst, arith}
 use Rattle.std.proofs.lemmas.Bool.{leb-true}
 use Rattle.sheet.specs.Checks.{byte_at, word_at, unless, or_else, header_of, limit_fault, offset_fault, marks_fault, rules_of, obeys, bytes_fault, nested, placed, faulted, line_says, lines_fault, sheet_fault}
 use Rattle.sheet.specs.Refusals.{place_of}

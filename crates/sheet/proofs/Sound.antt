@@ -1,14 +1,13 @@
 -- Bytes without a fault are the layout of a program.
-use Rattle.std.proofs.Common.{◌≡◌, ℕ, zero, suc, ◌+◌, ◌-◌, ◌*◌, ◌/◌, ◌%◌, ◌^◌, ◌<◌, ◌≤◌, Bool, true, false, cond, eqb, ltb, leb, List, [], ◌∷◌, ◌++◌, length, get_or, take, drop, Some, None, Ok, Err, Option, Result, sym, refl, ap, ◌∙◌, subst, arith}
-use Rattle.std.proofs.lemmas.Bool.{eqb-true, ltb-true, leb-true, ltb-false}
+use Rattle.std.proofs.Common.{◌≡◌, ℕ, zero, suc, ◌+◌, ◌-◌, ◌*◌, ◌/◌, ◌%◌, ◌^◌, ◌<◌, ◌≤◌, Bool, true, false, cond, ltb, List, [], ◌∷◌, ◌++◌, length, Some, None, Ok, Err, Option, Result, sym, refl, ap, ◌∙◌, subst, arith}
+use Rattle.std.proofs.lemmas.Bool.{eqb-true, ltb-true, leb-true}
 use Rattle.std.proofs.lemmas.List.{length-append, drop_all, append-nil}
 use Rattle.sheet.specs.Code.{Code, stop, work, literal, choose, repeat, size_of, Keeps}
-use Rattle.sheet.specs.Layout.{Program, Lawful, Rising, two, work_bytes, literal_bytes, other_bytes, code_bytes, header, sheet_bytes}
-use Rattle.sheet.specs.Checks.{byte_at, word_at, unless, or_else, header_of, limit_fault, offset_fault, marks_fault, rules_of, bytes_fault, opened, turned, closed, nested, placed, faulted, line_says, lines_fault, sheet_fault}
+use Rattle.sheet.specs.Layout.{Program, Lawful, Rising, work_bytes, literal_bytes, other_bytes, code_bytes, sheet_bytes}
+use Rattle.sheet.specs.Checks.{byte_at, word_at, header_of, limit_fault, offset_fault, marks_fault, rules_of, bytes_fault, opened, turned, closed, nested, placed, faulted, line_says, lines_fault, sheet_fault}
 use Rattle.sheet.specs.Results.{Bytes}
 use Rattle.sheet.specs.Reading.{Laid}
 use Rattle.sheet.specs.declared.faults.ReadFault.{ReadFault}
-use Rattle.sheet.specs.declared.faults.ReadFault.TheVariants.{Nesting}
 use Rattle.sheet.specs.declared.nesting.Open.{Open}
 use Rattle.sheet.specs.declared.nesting.Open.TheVariants.{First, Second, Body}
 use Rattle.sheet.proofs.Stands.{Stands, stands_append, stands_moved, stands_front}

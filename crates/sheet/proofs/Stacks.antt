@@ -1,6 +1,6 @@
 -- A stack kept as the front of an array: its top is the last of the front.
-use Rattle.std.proofs.Common.{◌≡◌, ℕ, zero, suc, ◌+◌, ◌-◌, ◌<◌, ◌≤◌, Bool, true, false, cond, ltb, List, [], ◌∷◌, ◌++◌, reverse, length, get_or, take, set, sym, refl, ap, ◌∙◌, subst, arith}
-use Rattle.std.proofs.lemmas.List.{reverse-append, length-reverse, length-take-le, take_more, take_more_set, take-set}
+use Rattle.std.proofs.Common.{◌≡◌, ℕ, ◌+◌, ◌<◌, ◌≤◌, List, [], ◌∷◌, reverse, length, get_or, take, set, ap, ◌∙◌}
+use Rattle.std.proofs.lemmas.List.{reverse-append, length-reverse, length-take-le, take_more, take_more_set}
 
 abbrev pub stack : {A : Type 0} → List A → ℕ → List A
 stack xs n = reverse (take n xs)

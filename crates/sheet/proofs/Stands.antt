@@ -1,5 +1,5 @@
 -- A list that stands in another from a place on.
-use Rattle.std.proofs.Common.{◌≡◌, ℕ, suc, ◌+◌, ◌<◌, ◌≤◌, List, [], ◌∷◌, ◌++◌, length, get_or, take, drop, sym, refl, ap, ◌∙◌, subst, arith}
+use Rattle.std.proofs.Common.{◌≡◌, ℕ, suc, ◌+◌, ◌≤◌, List, [], ◌∷◌, ◌++◌, length, take, drop, sym, refl, ap, ◌∙◌, subst, arith}
 pub use Rattle.sheet.specs.Filling.{Stands}
 use Rattle.std.proofs.lemmas.List.{append_assoc, get_or_at, length_push, drop_more, take-append-drop}
 

@@ -1,5 +1,5 @@
 -- A sheet's lines as structured code.
-use Rattle.std.specs.Prelude.{◌≡◌, ℕ, ◌+◌, ◌-◌, ◌^◌, ◌<◌, ◌≤◌, List, [], ◌∷◌}
+use Rattle.std.specs.Prelude.{ℕ, ◌+◌, ◌-◌, ◌^◌, ◌<◌, ◌≤◌}
 
 -- Each line or construct is followed by the rest of its block.
 pub data Code : Type 0 where

@@ -1,5 +1,5 @@
 -- What the reader's record of open constructs means.
-use Rattle.std.specs.Prelude.{◌≡◌, ℕ, ◌≤◌, Bool, true, false, List, [], ◌∷◌, reverse, length, take, Some, None, Ok, Err, Option, Result}
+use Rattle.std.specs.Prelude.{◌≡◌, ◌≤◌, Bool, true, false, List, reverse, length, take, Some, None, Option}
 use Rattle.sheet.specs.declared.nesting.Nest.{Nest}
 use Rattle.sheet.specs.declared.nesting.Open.{Open}
 

@@ -1,5 +1,5 @@
 -- What a check answers of the first fault.
-use Rattle.std.specs.Prelude.{◌≡◌, ℕ, ◌<◌, List, Some, None, Ok, Err, Option, Result, slice_index}
+use Rattle.std.specs.Prelude.{ℕ, ◌<◌, List, Some, None, Ok, Err, Option, Result, slice_index}
 
 -- the fault that a check found
 abbrev pub found : {X F : Type 0} → Result X F → Option F

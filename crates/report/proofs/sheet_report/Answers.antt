@@ -1,4 +1,4 @@
-use Rattle.std.proofs.Common.{◌≡◌, ◌-◌, ◌≤◌, length, take, string_bytes, arith}
+use Rattle.std.proofs.Common.{◌≡◌, ◌-◌, length, take, string_bytes, arith}
 use Rattle.std.proofs.lemmas.Result.{IfOk-weaker}
 use Rattle.report.specs.Reports.{Reports}
 use Rattle.report.specs.Texts.{path_text}

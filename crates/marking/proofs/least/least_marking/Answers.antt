@@ -1,5 +1,5 @@
-use Rattle.std.proofs.Common.{◌≡◌, ◌+◌, ◌*◌, ◌≤◌, length, take, drop, sym, refl, ap, ◌∙◌, subst, arith}
-use Rattle.sheet.specs.Code.{size_of, Keeps}
+use Rattle.std.proofs.Common.{◌≡◌, ◌+◌, ◌*◌, ◌≤◌, take, drop, sym, subst, arith}
+use Rattle.sheet.specs.Code.{Keeps}
 use Rattle.sheet.specs.Layout.{Rising}
 use Rattle.sheet.proofs.Verdicts.{laid_cells, filled_spans, filled_long}
 use Rattle.marking.specs.Rules.{Least}

@@ -1,5 +1,4 @@
-use Rattle.std.proofs.Common.{◌≡◌, ◌-◌, ◌*◌, ◌≤◌, ◌++◌, length, take, drop, sym, refl, ap, ◌∙◌, subst, arith}
-use Rattle.sheet.specs.Code.{size_of}
+use Rattle.std.proofs.Common.{◌≡◌, ◌-◌, ◌++◌, length, take, drop, subst, arith}
 use Rattle.sheet.proofs.Verdicts.{laid_lines, filled_spans, filled_long}
 use Rattle.onepath.specs.Cover.{covered_in}
 use Rattle.onepath.specs.Listed.{steps_of}

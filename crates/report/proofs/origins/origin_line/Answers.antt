@@ -1,6 +1,6 @@
-use Rattle.std.proofs.Common.{◌≡◌, ◌+◌, ◌-◌, ◌++◌, string_bytes, sym, refl, ap, ◌∙◌, arith}
+use Rattle.std.proofs.Common.{◌≡◌, ◌+◌, ◌-◌, ◌++◌, string_bytes, refl, ap, ◌∙◌, arith}
 use Rattle.std.proofs.lemmas.Result.{IfOk-from_err}
-use Rattle.report.specs.Texts.{member_names, origin_text}
+use Rattle.report.specs.Texts.{member_names}
 use Rattle.report.proofs.Growing.{member_more, member_none, whole}
 use Rattle.report.proofs.origins.origin_line.Goals as goal
 use Rattle.report.proofs.origins.origin_line.Goals.{then-contains+in_ok-item+in_ok-push_str, else-contains}

@@ -1,4 +1,4 @@
-use Rattle.std.proofs.Common.{◌≡◌, ◌-◌, false, ◌++◌, length, get_or, drop, replicate, sym, refl, ap, ◌∙◌}
+use Rattle.std.proofs.Common.{◌-◌, false, ◌++◌, length, get_or, drop, replicate, ap, ◌∙◌}
 use Rattle.round.proofs.Tables.{padded, all_no}
 use Rattle.round.proofs.secrets.covered_table.Goals as goal
 

@@ -1,10 +1,10 @@
-use Rattle.std.proofs.Common.{◌≡◌, suc, ◌+◌, ◌-◌, cond, sym, refl, ap, ◌∙◌, arith}
+use Rattle.std.proofs.Common.{◌≡◌, suc, ◌+◌, ◌-◌, cond, sym, ap, ◌∙◌, arith}
 use Rattle.run.specs.Machine.{state_of, next}
 use Rattle.run.specs.Values.{kind_of}
 use Rattle.protocol.specs.Advancing.{advanced, over_by, later}
 use Rattle.protocol.specs.Watching.{watch_of}
-use Rattle.protocol.specs.declared.answers.Ending.TheVariants.{Paused, Stopped}
-use Rattle.protocol.proofs.Advances.{advanced_over, advanced_paused, advanced_stopped, advanced_more, halts_after, later_one}
+use Rattle.protocol.specs.declared.answers.Ending.TheVariants.{Stopped}
+use Rattle.protocol.proofs.Advances.{advanced_over, advanced_stopped, advanced_more, halts_after, later_one}
 use Rattle.round.proofs.walking.walk.Goals as goal
 
 pub returns-then-is_over : goal.returns-then-is_over

@@ -1,5 +1,4 @@
-use Rattle.std.proofs.Common.{◌≡◌, ℕ, suc, ◌+◌, ◌-◌, ◌<◌, ◌≤◌, map, length, sym, refl, ap, ◌∙◌, subst, arith, rules}
-use Rattle.sheet.specs.Code.{Code, size_of}
+use Rattle.std.proofs.Common.{◌≡◌, suc, ◌+◌, ◌-◌, ◌<◌, map, length, sym, ap, ◌∙◌, subst, arith, rules}
 use Rattle.sheet.specs.Spans.{Spans, end_of}
 use Rattle.sheet.proofs.Heads.{spans_size, spans_none, at_work, at_literal, at_if, at_loop, not_else, not_end}
 use Rattle.run.specs.Branching.{branching}

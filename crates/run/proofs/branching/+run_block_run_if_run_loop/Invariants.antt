@@ -1,4 +1,4 @@
-use Rattle.std.proofs.Common.{◌≡◌, ℕ, ◌+◌, ◌-◌, ◌*◌, ◌≤◌, map}
+use Rattle.std.proofs.Common.{◌≡◌, ◌+◌, ◌-◌, ◌*◌, ◌≤◌, map}
 use Rattle.sheet.specs.Code.{Code}
 use Rattle.sheet.specs.Spans.{Spans}
 use Rattle.run.specs.Branching.{branching, passes}

@@ -1,7 +1,7 @@
 use Rattle.std.proofs.Common.{◌≡◌, map, length, sym, ap, ◌∙◌, arith}
 use Rattle.sheet.specs.Checks.{word_at}
 use Rattle.sheet.proofs.Verdicts.{laid_cells, filled_spans, filled_long}
-use Rattle.run.specs.Branching.{out_of, branching}
+use Rattle.run.specs.Branching.{out_of}
 use Rattle.run.specs.Judging.{cells_of, verdict_of}
 use Rattle.run.specs.Values.{kind_of}
 use Rattle.run.proofs.Judged.{no_fault, cells_out, verdict_out}

@@ -1,4 +1,4 @@
-use Rattle.std.proofs.Common.{◌≡◌, suc, ◌+◌, ◌-◌, sym, refl, ap, ◌∙◌, arith}
+use Rattle.std.proofs.Common.{◌≡◌, suc, ◌+◌, ◌-◌, sym, ap, ◌∙◌, arith}
 use Rattle.run.specs.Machine.{steps, taken, state_of}
 use Rattle.run.specs.Values.{kind_of}
 use Rattle.run.proofs.Taking.{over_stays, over_takes_none, one_more_taken, one_more_step}

@@ -1,4 +1,4 @@
-use Rattle.std.proofs.Common.{◌≡◌, false, refl, arith}
+use Rattle.std.proofs.Common.{false, refl, arith}
 use Rattle.protocol.specs.Promise.{shared}
 use Rattle.protocol.specs.declared.answers.Answer.TheVariants.{Done}
 use Rattle.script.proofs.Alike.{no_yes, other_length, parted, alike_more, alike_end}

@@ -1,6 +1,5 @@
-use Rattle.std.proofs.Common.{◌≡◌, ◌+◌, ◌<◌, ◌++◌, length, get_or, take, drop, set, sym, refl, ap, ◌∙◌, arith}
+use Rattle.std.proofs.Common.{◌≡◌, ◌+◌, ◌<◌, ◌++◌, length, get_or, take, drop, sym, ap, ◌∙◌, arith}
 use Rattle.std.proofs.lemmas.List.{length-set, drop-set-lt}
-use Rattle.run.specs.Machine.{state_of}
 use Rattle.protocol.specs.Calls.{path_score, after, answer}
 use Rattle.protocol.specs.Plain.{tells}
 use Rattle.protocol.specs.Promise.{answers_of}

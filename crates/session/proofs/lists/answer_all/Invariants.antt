@@ -1,4 +1,4 @@
-use Rattle.std.proofs.Common.{◌≡◌, ◌≤◌, ◌++◌, length, take, drop}
+use Rattle.std.proofs.Common.{◌≡◌, ◌++◌, length, take, drop}
 use Rattle.protocol.specs.Plain.{tells, ends}
 use Rattle.protocol.specs.Promise.{answers_of}
 use Rattle.protocol.specs.Watching.{watch_of}

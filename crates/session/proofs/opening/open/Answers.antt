@@ -1,4 +1,4 @@
-use Rattle.std.proofs.Common.{◌≡◌, ◌-◌, false, length, get_or, take, None, sym, refl, ap, ◌∙◌, subst, arith}
+use Rattle.std.proofs.Common.{◌≡◌, ◌-◌, false, length, get_or, take, None, sym, ap, ◌∙◌, subst, arith}
 use Rattle.sheet.proofs.Verdicts.{laid_cells}
 use Rattle.onepath.specs.Converting.{Stepped}
 use Rattle.session.specs.Opening.{tables_of, lent_by}

@@ -1,7 +1,6 @@
-use Rattle.std.proofs.Common.{◌≡◌, length, None, sym, arith}
+use Rattle.std.proofs.Common.{length, arith}
 use Rattle.session.specs.Lists.{desk_of}
 use Rattle.session.specs.Opening.{tables_of, lent_by}
-use Rattle.session.specs.Playing.{play_fault}
 use Rattle.session.proofs.PlayedOut.{ready, played, no_fault}
 use Rattle.session.proofs.playing.play_list.Goals as goal
 

@@ -1,4 +1,4 @@
-use Rattle.std.proofs.Common.{◌≡◌, ◌+◌, length, get_or, sym, refl, ap, ◌∙◌, add-zero, arith}
+use Rattle.std.proofs.Common.{◌≡◌, ◌+◌, length, get_or, sym, ap, ◌∙◌, add-zero, arith}
 use Rattle.std.proofs.lemmas.List.{at_drop_all}
 use Rattle.sheet.specs.Checks.{bytes_fault}
 use Rattle.sheet.proofs.Stepping.{byte_next, byte_bad, rules_length}

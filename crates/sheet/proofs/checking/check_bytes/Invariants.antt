@@ -1,4 +1,4 @@
-use Rattle.std.proofs.Common.{◌≡◌, ◌+◌, length, drop}
+use Rattle.std.proofs.Common.{◌≡◌, ◌+◌, drop}
 use Rattle.sheet.specs.Checks.{bytes_fault}
 use Rattle.sheet.proofs.checking.check_bytes.Given as goal
 

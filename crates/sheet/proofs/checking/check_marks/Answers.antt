@@ -1,4 +1,4 @@
-use Rattle.std.proofs.Common.{◌≡◌, ◌+◌, ◌-◌, sym, ap, ◌∙◌, arith}
+use Rattle.std.proofs.Common.{◌+◌, ◌-◌, sym, ap, ◌∙◌, arith}
 use Rattle.sheet.specs.Checks.{marks_fault}
 use Rattle.sheet.proofs.Stepping.{mark_next, mark_bad}
 use Rattle.sheet.proofs.checking.check_marks.Goals as goal

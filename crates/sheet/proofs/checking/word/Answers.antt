@@ -1,4 +1,4 @@
-use Rattle.std.proofs.Common.{refl, rules}
+use Rattle.std.proofs.Common.{rules}
 use Rattle.sheet.proofs.checking.word.Goals as goal
 
 pub returns : goal.returns

@@ -1,6 +1,6 @@
-use Rattle.std.proofs.Common.{◌≡◌, ℕ, ◌+◌, ◌*◌, ◌<◌, ◌≤◌, length, set, sym, refl, ap, ◌∙◌, subst, arith, rules}
+use Rattle.std.proofs.Common.{◌+◌, ◌<◌, length, ◌∙◌, arith, rules}
 use Rattle.std.proofs.lemmas.List.{length-set}
-use Rattle.sheet.proofs.Blocks.{has_work, has_literal, has_if, has_loop, has_none, at_end}
+use Rattle.sheet.proofs.Blocks.{has_if, has_loop, has_none, at_end}
 use Rattle.sheet.proofs.Filled.{filled_none, filled_then, stepped_work, stepped_literal, stepped_if, stepped_loop, if_middle_lem, if_end, loop_end_lem, number_bytes}
 use Rattle.sheet.proofs.filling.+fill_block_fill_if_fill_loop.Goals as goal
 

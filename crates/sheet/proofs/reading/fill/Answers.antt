@@ -1,4 +1,4 @@
-use Rattle.std.proofs.Common.{◌≡◌, ◌+◌, length, sym, refl, ap, ◌∙◌, arith}
+use Rattle.std.proofs.Common.{◌≡◌, ◌+◌, length, ap, arith}
 use Rattle.sheet.proofs.Verdicts.{laid_begins, laid_long, laid_lines, laid_marked, table_filled}
 use Rattle.sheet.proofs.reading.fill.Goals as goal
 
