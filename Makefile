@@ -1,16 +1,18 @@
-.PHONY: play print origins check
+.PHONY: play print origins phone check
 
 play:
-	rt check play
-	target/bin/play < crates/play/stdin
+	cd crates/play && rt run < stdin
 
 print:
-	rt check sheet_printer
-	target/bin/sheet_printer < crates/sheet_printer/stdin
+	cd crates/sheet_printer && rt run < stdin
 
 origins:
-	rt check origin_printer
-	target/bin/origin_printer < crates/origin_printer/stdin
+	cd crates/origin_printer && rt run < stdin
+
+phone:
+	cd crates/phone && rt lib
+	mkdir -p target/staticlib
+	cp crates/phone/out/libphone.a target/staticlib/libphone.a
 
 check:
 	.ci/run

@@ -4,7 +4,7 @@ ghost use Rattle.std.proofs.lemmas.Nat.{ones-le, or_comm};
 ghost use Rattle.marking.specs.Sets.{no_origins, own_origin, union};
 ghost use Rattle.marking.specs.Unions.{same_set, or_assoc, ones_rise};
 ghost use Rattle.std.specs.Int.Bits.{or_self};
-ghost use Rattle.std.proofs.Common.{rules, arith};
+ghost use Rattle.std.proofs.Common.{rules};
 
 use super::{Origins, bit_of};
 use crate::kinds::Mark;
@@ -32,7 +32,7 @@ impl Mark for Origins {
 
     ghost tops = { λ x. ones-le 64 x.members x.fits };
 
-    ghost low = { first_of (Prim.search rules, Prim.grind (arith, Self.row.coded.inj)) };
+    ghost low = { Prim.search rules };
 
     fn none() -> Origins {
         Origins::of(0)
