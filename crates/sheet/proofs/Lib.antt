@@ -12,3 +12,4 @@ pub mod Nearby
 pub mod Blocks
 pub mod Filled
 pub mod Sole
+pub mod Merely

@@ -17,6 +17,10 @@ Spans xs i j (choose c p q r) =
 Spans xs i j (repeat c n p r) =
     (z : ℕ) × (line_at xs i ≡ Loop c n z) × Spans xs (i + 1) z p × (line_at xs z ≡ End i) × Spans xs (z + 1) j r
 
+-- the lines from i up to j are some code's
+abbrev pub IsCode : List Line → ℕ → ℕ → Type 0
+IsCode xs i j = (c : Code) × Spans xs i j c
+
 -- the place after the construct that the line i opens
 abbrev pub end_of : Line → ℕ
 end_of (Work t o a b) = 0

@@ -1,6 +1,7 @@
 // Judge sheets: their lines, the layout of their bytes, and the reader.
 #![tactic(auto)]
 
+mod block;
 mod checking;
 mod faults;
 mod filling;
@@ -11,7 +12,9 @@ mod moves;
 mod nesting;
 mod reading;
 mod rules;
+mod walking;
 
+pub use block::{Block, Construct};
 pub use faults::{Layer, ReadFault};
 pub use headers::Sheet;
 pub use laws::one_program_stands;

@@ -1,0 +1,39 @@
+-- Blocks, and the constructs that they are made of.
+use Rattle.std.specs.Prelude.{◌≡◌, ℕ, ◌+◌, List, Some, None, Option}
+use Rattle.sheet.specs.Code.{Code, stop, work, literal, choose, repeat}
+use Rattle.sheet.specs.Spans.{Spans}
+use Rattle.sheet.specs.declared.lines.Line.{Line}
+use Rattle.sheet.specs.declared.block.Block.{Block}
+use Rattle.sheet.specs.declared.block.Construct.{Construct}
+use Rattle.sheet.specs.declared.block.Construct.TheVariants.{Work, Literal, If, Loop}
+
+-- the lines of the block are the code's
+abbrev pub Holds : Block → Code → Type 0
+Holds b c = Spans b.lines.now b.from b.to c
+
+-- Where a construct lies in the table xs whose first line is i: its blocks come between its lines, and j is the line
+-- after it.
+abbrev pub Lies : List Line → ℕ → Construct → ℕ → Type 0
+Lies xs i (Work t o a b) j = j ≡ i + 1
+Lies xs i (Literal t n) j = j ≡ i + 1
+Lies xs i (If x p q) j = (p.lines.now ≡ xs) × (p.from ≡ i + 1) × (q.lines.now ≡ xs) × (q.from ≡ p.to + 1) × (j ≡ q.to + 1)
+Lies xs i (Loop l x n p) j = (l ≡ i) × (p.lines.now ≡ xs) × (p.from ≡ i + 1) × (j ≡ p.to + 1)
+
+-- the code c is the construct and then the code r
+abbrev pub Begins : Construct → Code → Code → Type 0
+Begins (Work t o a b) c r = c ≡ work t o a b r
+Begins (Literal t n) c r = c ≡ literal t n r
+Begins (If x p q) c r = (f : Code) × (s : Code) × Holds p f × Holds q s × (c ≡ choose x f s r)
+Begins (Loop l x n p) c r = (f : Code) × Holds p f × (c ≡ repeat x n f r)
+
+-- The block begins with the construct, and `rest` is what comes after it.
+pub record Heads (b : Block) (x : Construct) (rest : Block) : Type 0 where
+  pub lines : rest.lines.now ≡ b.lines.now
+  pub to : rest.to ≡ b.to
+  pub lies : Lies b.lines.now b.from x rest.from
+  pub begins : (c : Code) → Holds b c → (r : Code) × Begins x c r × Holds rest r
+
+-- What a block gives when it is asked for its next construct, and what is left of it then.
+abbrev pub Gives : Block → Option Construct → Block → Type 0
+Gives b None rest = (rest ≡ b) × ((c : Code) → Holds b c → c ≡ stop)
+Gives b (Some x) rest = Heads b x rest
