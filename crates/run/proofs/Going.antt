@@ -1,39 +1,92 @@
 -- The branching run, construct by construct.
-use Rattle.std.proofs.Common.{◌≡◌, ℕ, suc, ◌+◌, Bool, true, false, List, sym, refl, ap, ◌∙◌}
-use Rattle.sheet.specs.Code.{Code, choose, repeat, size_of}
+use Rattle.std.proofs.Common.{Ok, Err, Result, ◌≡◌, ℕ, suc, ◌+◌, Bool, true, false, List, sym, ap, ◌∙◌, arith}
+use Rattle.sheet.specs.Blocks.{Holds, Heads}
+use Rattle.sheet.specs.Code.{Code, size_of}
+use Rattle.sheet.specs.declared.block.Block.{Block}
+use Rattle.sheet.specs.declared.block.Construct.TheVariants.{If, Loop}
+use Rattle.sheet.proofs.Heads.{spans_size}
 use Rattle.run.specs.Values.{Values, is_true}
-use Rattle.run.specs.Branching.{Out, went, broke, after, passes, branching}
+use Rattle.std.specs.Result.{IsErrAnd, result_err}
+use Rattle.run.specs.Branching.{Out, went, broke, after, passes, branching, out_of}
 
 abbrev either : Bool → Out → Out → Out
 either b x y = elim b [ true ↦ x | false ↦ y ]
 
+-- the run that broke with this error
+pub broke_on : (r : Result (Unit {0}) ℕ) (e : ℕ) (w : List ℕ) → IsErrAnd r (λ x. x ≡ e) → out_of (result_err r) w ≡ broke e w
+broke_on (Ok x) e w h = absurd h
+broke_on (Err x) e w h = ap (λ y. broke y w) h
+
+-- A block that begins with a construct comes to what the construct comes to, and then to what is left.
+module _ (v : Values) (b d : Block) (w : List ℕ) (c : Code) (holds : Holds b c) where
+  pub record Goes (o : Out) : Type 0 where
+    pub rest : Code
+    pub left : Holds d rest
+    pub is : branching v c b.from w ≡ after o (branching v rest d.from)
+
+  module _ (x : ℕ) (p q : Block) (h : Heads b (If x p q) d) (o : Out) where
+    pub after_first : is_true v w x ≡ true → ((f : Code) → Holds p f → o ≡ branching v f p.from w) → Goes o
+    after_first t g =
+        let n = h.begins c holds in
+        let f = n.1.0 in
+        let s = n.1.1 in
+        let r = n.0 in
+        let one = spans_size p.lines.now p.from p.to f n.1.2 in
+        let two = spans_size q.lines.now q.from q.to s n.1.3 in
+        let start : b.from + 1 ≡ p.from = omega (arith, h.lies.1) in
+        let past : b.from + 1 + size_of f + 1 + size_of s + 1 ≡ d.from = omega (arith, one, two, h.lies.1, h.lies.3, h.lies.4) in
+        record {
+          rest = r;
+          left = n.2;
+          is =
+              ap (λ k. branching v k b.from w) n.1.4
+              ∙ ap (λ y. after (either y (branching v f (b.from + 1) w) (branching v s (b.from + 1 + size_of f + 1) w)) (branching v r (b.from + 1 + size_of f + 1 + size_of s + 1))) t
+              ∙ ap (λ k. after (branching v f k w) (branching v r (b.from + 1 + size_of f + 1 + size_of s + 1))) start
+              ∙ ap (λ y. after y (branching v r (b.from + 1 + size_of f + 1 + size_of s + 1))) (sym (g f n.1.2))
+              ∙ ap (λ k. after o (branching v r k)) past;
+        }
+
+    pub after_second : is_true v w x ≡ false → ((s : Code) → Holds q s → o ≡ branching v s q.from w) → Goes o
+    after_second t g =
+        let n = h.begins c holds in
+        let f = n.1.0 in
+        let s = n.1.1 in
+        let r = n.0 in
+        let one = spans_size p.lines.now p.from p.to f n.1.2 in
+        let two = spans_size q.lines.now q.from q.to s n.1.3 in
+        let start : b.from + 1 + size_of f + 1 ≡ q.from = omega (arith, one, h.lies.1, h.lies.3) in
+        let past : b.from + 1 + size_of f + 1 + size_of s + 1 ≡ d.from = omega (arith, one, two, h.lies.1, h.lies.3, h.lies.4) in
+        record {
+          rest = r;
+          left = n.2;
+          is =
+              ap (λ k. branching v k b.from w) n.1.4
+              ∙ ap (λ y. after (either y (branching v f (b.from + 1) w) (branching v s (b.from + 1 + size_of f + 1) w)) (branching v r (b.from + 1 + size_of f + 1 + size_of s + 1))) t
+              ∙ ap (λ k. after (branching v s k w) (branching v r (b.from + 1 + size_of f + 1 + size_of s + 1))) start
+              ∙ ap (λ y. after y (branching v r (b.from + 1 + size_of f + 1 + size_of s + 1))) (sym (g s n.1.3))
+              ∙ ap (λ k. after o (branching v r k)) past;
+        }
+
+  pub after_loop : (l x n : ℕ) (p : Block) (h : Heads b (Loop l x n p) d) (o : Out) → ((f : Code) → Holds p f → o ≡ passes v x l (branching v f p.from) n w) → Goes o
+  after_loop l x n p h o g =
+      let e = h.begins c holds in
+      let f = e.1.0 in
+      let r = e.0 in
+      let one = spans_size p.lines.now p.from p.to f e.1.1 in
+      let start : b.from + 1 ≡ p.from = omega (arith, h.lies.2) in
+      let past : b.from + 1 + size_of f + 1 ≡ d.from = omega (arith, one, h.lies.2, h.lies.3) in
+      record {
+        rest = r;
+        left = e.2;
+        is =
+            ap (λ k. branching v k b.from w) e.1.2
+            ∙ ap (λ k. after (passes v x k (branching v f (b.from + 1)) n w) (branching v r (b.from + 1 + size_of f + 1))) (sym h.lies.0)
+            ∙ ap (λ k. after (passes v x l (branching v f k) n w) (branching v r (b.from + 1 + size_of f + 1))) start
+            ∙ ap (λ y. after y (branching v r (b.from + 1 + size_of f + 1))) (sym (g f e.1.1))
+            ∙ ap (λ k. after o (branching v r k)) past;
+      }
+
 module _ (v : Values) (x l : ℕ) where
-  -- an if comes to what its chosen block comes to
-  chosen : (p q : Code) (w : List ℕ) (m : ℕ) (b : Bool) (o : Out) → m ≡ l + 1 + size_of p → is_true v w x ≡ b →
-      (b ≡ true → o ≡ branching v p (l + 1) w) → (b ≡ false → o ≡ branching v q (m + 1) w) →
-      o ≡ either (is_true v w x) (branching v p (l + 1) w) (branching v q (l + 1 + size_of p + 1) w)
-  chosen p q w m true o e t y n = y refl ∙ sym (ap (λ b. either b (branching v p (l + 1) w) (branching v q (l + 1 + size_of p + 1) w)) t)
-  chosen p q w m false o e t y n =
-      n refl ∙ ap (λ k. branching v q (k + 1) w) e ∙ sym (ap (λ b. either b (branching v p (l + 1) w) (branching v q (l + 1 + size_of p + 1) w)) t)
-
-  module _ (p q r : Code) (w : List ℕ) (m z : ℕ) (em : m ≡ l + 1 + size_of p) (ez : z ≡ m + 1 + size_of q) (b : Bool) (t : is_true v w x ≡ b) where
-    pub if_goes : (u : List ℕ) → (b ≡ true → went u ≡ branching v p (l + 1) w) → (b ≡ false → went u ≡ branching v q (m + 1) w) →
-        branching v r (z + 1) u ≡ branching v (choose x p q r) l w
-    if_goes u y n =
-        ap (λ k. branching v r (k + 1) u) (ez ∙ ap (λ k. k + 1 + size_of q) em)
-        ∙ ap (λ o. after o (branching v r (l + 1 + size_of p + 1 + size_of q + 1))) (chosen p q w m b (went u) em t y n)
-
-    pub if_breaks : (h : ℕ) (u : List ℕ) → (b ≡ true → broke h u ≡ branching v p (l + 1) w) → (b ≡ false → broke h u ≡ branching v q (m + 1) w) →
-        broke h u ≡ branching v (choose x p q r) l w
-    if_breaks h u y n = ap (λ o. after o (branching v r (l + 1 + size_of p + 1 + size_of q + 1))) (chosen p q w m b (broke h u) em t y n)
-
-  module _ (n : ℕ) (p r : Code) (w : List ℕ) where
-    pub loop_goes : (z : ℕ) (u : List ℕ) → z ≡ l + 1 + size_of p → went u ≡ passes v x l (branching v p (l + 1)) n w → branching v r (z + 1) u ≡ branching v (repeat x n p r) l w
-    loop_goes z u e h = ap (λ k. branching v r (k + 1) u) e ∙ ap (λ o. after o (branching v r (l + 1 + size_of p + 1))) h
-
-    pub loop_breaks : (h : ℕ) (u : List ℕ) → broke h u ≡ passes v x l (branching v p (l + 1)) n w → broke h u ≡ branching v (repeat x n p r) l w
-    loop_breaks h u e = ap (λ o. after o (branching v r (l + 1 + size_of p + 1))) e
-
   -- the passes of a loop, n of them left, of which m after the next
   module _ (body : List ℕ → Out) (n m : ℕ) (more : n ≡ suc m) (w : List ℕ) where
     pass : (b : Bool) → is_true v w x ≡ b → passes v x l body n w ≡ either b (after (body w) (passes v x l body m)) (went w)

@@ -7,7 +7,7 @@ ghost use Rattle.run.specs.Refusals.{run_fault};
 use crate::branching::run_block;
 use crate::faults::RunFault;
 use crate::verdicts::{Verdict, verdict_in};
-use sheet::{Line, check_table, read};
+use sheet::{Block, Line, check_table, read};
 use value::Value;
 
 // Reads a sheet and runs its branching form over the cells.
@@ -24,6 +24,11 @@ pub fn judge<V: Value>(
         return Err(RunFault::Cells);
     }
     let sheet = read(bytes, lines)?;
-    let broke = run_block(lines, 0, sheet.lines, cells);
+    let whole = Block {
+        lines,
+        from: 0,
+        to: sheet.lines,
+    };
+    let broke = run_block(whole, cells).err();
     Ok(verdict_in(cells, sheet.verdict, broke))
 }

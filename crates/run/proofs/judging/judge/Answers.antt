@@ -1,19 +1,19 @@
 use Rattle.std.proofs.Common.{◌≡◌, map, length, sym, ap, ◌∙◌, arith}
 use Rattle.sheet.specs.Checks.{word_at}
 use Rattle.sheet.proofs.Verdicts.{laid_cells, filled_spans, filled_long}
-use Rattle.run.specs.Branching.{out_of}
+use Rattle.run.specs.Branching.{branching, out_of}
 use Rattle.run.specs.Judging.{cells_of, verdict_of}
 use Rattle.run.specs.Values.{kind_of}
 use Rattle.run.proofs.Judged.{no_fault, cells_out, verdict_out}
 use Rattle.run.proofs.judging.judge.Goals as goal
 
-pub run_block-broke-requires : goal.run_block-broke-requires
-run_block-broke-requires g c =
+pub invariant_of-whole : goal.invariant_of-whole
+invariant_of-whole g c =
     let w = c.in_ok-sheet.ensures.reads in
     let p = w.0 in
     let lines = w.2.lines in
     let long = filled_long p c.args.lines.now c.read.new.table w.3 in
-    record { reads = (p.code, filled_spans p c.args.lines.now c.read.new.table c.in_ok-sheet.sheet.lines w.3 lines); ordered = omega arith; inside = omega arith }
+    record { ordered = omega arith; inside = omega arith; reads = ∣ (p.code, filled_spans p c.args.lines.now c.read.new.table c.in_ok-sheet.sheet.lines w.3 lines) ∣₁ }
 
 pub returns : goal.returns
 returns g c =
@@ -25,7 +25,8 @@ returns g c =
     let spans = filled_spans p c.args.lines.now c.read.new.table c.in_ok-sheet.sheet.lines w.3 w.2.lines in
     let cells : length c.args.cells.now ≡ word_at bs 0 = c.if-cells-checked.false ∙ k.2.cells ∙ sym (laid_cells bs k.0 k.1) in
     let first = no_fault bs (length c.args.lines.now) (length c.args.cells.now) c.in_ok-sheet.ensures.first cells in
-    let out = c.run_block-broke.ensures p.code spans in
-    let after = map g.V.Value.meaning c.run_block-broke.new.cells in
-    let told = c.verdict_in.ensures ∙ verdict_out v c.in_ok-sheet.sheet.verdict c.run_block-broke.result after ∙ ap (λ x. verdict_of v x (out_of c.run_block-broke.result after)) w.2.verdict ∙ ap (verdict_of v p.verdict) out in
-    record { first = first; judges = (p, w.1, w.3, sym (cells_out c.run_block-broke.result after) ∙ ap cells_of out, told) }
+    let after = map g.V.Value.meaning c.run_block.new.cells in
+    let broke = c.err-broke.result in
+    let out : out_of broke after ≡ branching v p.code 0 (map g.V.Value.meaning c.args.cells.now) = ap (λ b. out_of b after) c.err-broke.ensures.value ∙ c.run_block.ensures p.code spans in
+    let told = c.verdict_in.ensures ∙ verdict_out v c.in_ok-sheet.sheet.verdict broke after ∙ ap (λ x. verdict_of v x (out_of broke after)) w.2.verdict ∙ ap (verdict_of v p.verdict) out in
+    record { first = first; judges = (p, w.1, w.3, sym (cells_out broke after) ∙ ap cells_of out, told) }
