@@ -1,74 +1,54 @@
--- What the first line of code over so many cells says: which cells it names, and which lines are code again.
-use Rattle.std.proofs.Common.{◌≡◌, ℕ, ◌+◌, ◌-◌, ◌<◌, ◌≤◌, List, sym, ap, ◌∙◌, subst}
+-- What a block that is code over so many cells says by its first construct: which cells it names, and which blocks are
+-- such code again.
+use Rattle.std.proofs.Common.{ℕ, ◌-◌, ◌<◌, subst}
+use Rattle.sheet.specs.Blocks.{Heads}
 use Rattle.sheet.specs.Code.{Keeps}
-use Rattle.sheet.specs.Spans.{line_at, Spans, end_of}
-use Rattle.sheet.specs.declared.lines.Line.{Line}
-use Rattle.sheet.specs.declared.lines.Line.TheVariants.{Work, Literal, If, Else, End, Loop}
-use Rattle.sheet.proofs.Heads.{at_work, at_literal, at_if, at_loop, not_else, not_end}
+use Rattle.sheet.specs.declared.block.Block.{Block}
+use Rattle.sheet.specs.declared.block.Construct.TheVariants.{Work, Literal, If, Loop}
 use Rattle.marking.specs.Spread.{Reads}
 
-pub record ReadsWork (xs : List Line) (n i j t a b : ℕ) : Type 0 where
+pub record ReadsWork (d : Block) (n t x y : ℕ) : Type 0 where
   pub target : t < n
-  pub left : a < n
-  pub right : b < n
-  pub rest : Reads xs n (i + 1) j
+  pub left : x < n
+  pub right : y < n
+  pub rest : Reads d n
 
-pub record ReadsLiteral (xs : List Line) (n i j t : ℕ) : Type 0 where
+pub record ReadsLiteral (d : Block) (n t : ℕ) : Type 0 where
   pub target : t < n
-  pub rest : Reads xs n (i + 1) j
+  pub rest : Reads d n
 
-pub record ReadsIf (xs : List Line) (n i j x e z : ℕ) : Type 0 where
+pub record ReadsIf (d : Block) (n x : ℕ) (p q : Block) : Type 0 where
   pub cell : x < n
-  pub first : Reads xs n (i + 1) e
-  pub second : Reads xs n (e + 1) z
-  pub rest : Reads xs n (z + 1) j
-  pub le_first : i + 1 ≤ e
-  pub le_second : e + 1 ≤ z
-  pub le_rest : z + 1 ≤ j
+  pub first : Reads p n
+  pub second : Reads q n
+  pub rest : Reads d n
 
-pub record ReadsLoop (xs : List Line) (n i j x z : ℕ) : Type 0 where
+pub record ReadsLoop (d : Block) (n x : ℕ) (p : Block) : Type 0 where
   pub cell : x < n
-  pub first : Reads xs n (i + 1) z
-  pub rest : Reads xs n (z + 1) j
-  pub le_first : i + 1 ≤ z
-  pub le_rest : z + 1 ≤ j
+  pub body : Reads p n
+  pub rest : Reads d n
 
-module _ (xs : List Line) (n i j : ℕ) (more : i ≡ j → ⊥) (h : Reads xs n i j) where
-  pub reads_work : (t o a b : ℕ) → line_at xs i ≡ Work t o a b → ReadsWork xs n i j t a b
-  reads_work t o a b e =
-      let v = at_work xs i j more t o a b e h.0 h.2 in
-      let k = subst (Keeps n h.1) v.is h.3 in
-      record { target = k.0; left = k.2; right = k.3; rest = (v.rest, h.1, v.spans, k.4) }
+module _ (b d : Block) (n : ℕ) (r : Reads b n) where
+  pub reads_work : (t o x y : ℕ) → Heads b (Work t o x y) d → ReadsWork d n t x y
+  reads_work t o x y h =
+      let k = h.begins r.0 r.2 in
+      let g = subst (Keeps n r.1) k.1 r.3 in
+      record { target = g.0; left = g.2; right = g.3; rest = (k.0, r.1, k.2, g.4) }
 
-  pub reads_literal : (t k : ℕ) → line_at xs i ≡ Literal t k → ReadsLiteral xs n i j t
-  reads_literal t k e =
-      let v = at_literal xs i j more t k e h.0 h.2 in
-      let g = subst (Keeps n h.1) v.is h.3 in
-      record { target = g.0; rest = (v.rest, h.1, v.spans, g.2) }
+  pub reads_literal : (t m : ℕ) → Heads b (Literal t m) d → ReadsLiteral d n t
+  reads_literal t m h =
+      let k = h.begins r.0 r.2 in
+      let g = subst (Keeps n r.1) k.1 r.3 in
+      record { target = g.0; rest = (k.0, r.1, k.2, g.2) }
 
-  pub reads_if : (x k z : ℕ) → line_at xs i ≡ If x k → z ≡ end_of (line_at xs k) → ReadsIf xs n i j x k z
-  reads_if x k z e ez =
-      let v = at_if xs i j more x k e h.0 h.2 in
-      let g = subst (Keeps n h.1) v.is h.3 in
-      let zz : v.z ≡ z = sym (ez ∙ ap end_of v.mid) in
-      record {
-        cell = g.0;
-        first = (v.first, h.1 - 1, v.spans_first, g.2);
-        second = (v.second, h.1 - 1, subst (λ y. Spans xs (k + 1) y v.second) zz v.spans_second, g.3);
-        rest = (v.rest, h.1, subst (λ y. Spans xs (y + 1) j v.rest) zz v.spans_rest, g.4);
-        le_first = v.le_first;
-        le_second = subst (λ y. k + 1 ≤ y) zz v.le_second;
-        le_rest = subst (λ y. y + 1 ≤ j) zz v.le_rest;
-      }
+  pub reads_if : (x : ℕ) (p q : Block) → Heads b (If x p q) d → ReadsIf d n x p q
+  reads_if x p q h =
+      let k = h.begins r.0 r.2 in
+      let g = subst (Keeps n r.1) k.1.4 r.3 in
+      record { cell = g.0; first = (k.1.0, r.1 - 1, k.1.2, g.2); second = (k.1.1, r.1 - 1, k.1.3, g.3); rest = (k.0, r.1, k.2, g.4) }
 
-  pub reads_loop : (x k z : ℕ) → line_at xs i ≡ Loop x k z → ReadsLoop xs n i j x z
-  reads_loop x k z e =
-      let v = at_loop xs i j more x k z e h.0 h.2 in
-      let g = subst (Keeps n h.1) v.is h.3 in
-      record { cell = g.0; first = (v.first, h.1 - 1, v.spans_first, g.4); rest = (v.rest, h.1, v.spans_rest, g.5); le_first = v.le_first; le_rest = v.le_rest }
-
-  pub no_else : (z : ℕ) → line_at xs i ≡ Else z → ⊥
-  no_else z e = not_else xs i j more z e h.0 h.2
-
-  pub no_end : (z : ℕ) → line_at xs i ≡ End z → ⊥
-  no_end z e = not_end xs i j more z e h.0 h.2
+  pub reads_loop : (l x m : ℕ) (p : Block) → Heads b (Loop l x m p) d → ReadsLoop d n x p
+  reads_loop l x m p h =
+      let k = h.begins r.0 r.2 in
+      let g = subst (Keeps n r.1) k.1.2 r.3 in
+      record { cell = g.0; body = (k.1.0, r.1 - 1, k.1.1, g.4); rest = (k.0, r.1, k.2, g.5) }

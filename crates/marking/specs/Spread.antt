@@ -1,13 +1,13 @@
 -- What a table of marks, a mark a cell, holds after marks were spread in it.
 use Rattle.std.specs.Prelude.{◌≡◌, ℕ, ◌+◌, ◌<◌, Bool, true, false, List, [], ◌∷◌, length, slice_index_or}
+use Rattle.sheet.specs.Blocks.{HasCode}
 use Rattle.sheet.specs.Code.{Code, stop, work, literal, choose, repeat, Keeps}
-use Rattle.sheet.specs.Spans.{Spans}
-use Rattle.sheet.specs.declared.lines.Line.{Line}
+use Rattle.sheet.specs.declared.block.Block.{Block}
 use Rattle.marking.specs.Rules.{AtLeast, Owns}
 
--- the lines from i up to j are code over so many cells
-abbrev pub Reads : List Line → ℕ → ℕ → ℕ → Type 0
-Reads xs cells i j = (c : Code) × (deep : ℕ) × Spans xs i j c × Keeps cells deep c
+-- the block is code over so many cells
+abbrev pub Reads : Block → ℕ → Type 0
+Reads b cells = (c : Code) × (deep : ℕ) × HasCode b c × Keeps cells deep c
 
 -- the marking that the table holds; a cell past its end has no mark
 abbrev pub marking : {M : Type 0} → M → List M → ℕ → M
@@ -37,12 +37,12 @@ pub record Moved {M : Type 0} (join : M → M → M) (none : M) (rank : M → �
   pub still : rose ≡ false → us ≡ ts
   pub more : rose ≡ true → total rank ts < total rank us
 
--- The lines from i up to j, under conditions whose joined mark is w, were gone through once. Where no mark rose the
--- table meets their rules, and no mark rose above a marking that meets them.
-pub record Passed {M : Type 0} (join : M → M → M) (none : M) (rank : M → ℕ) (xs : List Line) (i j : ℕ) (w : M) (ts us : List M) (rose : Bool) : Type 0 where
+-- The block, under conditions whose joined mark is w, was gone through once. Where no mark rose the table meets its
+-- rules, and no mark rose above a marking that meets them.
+pub record Passed {M : Type 0} (join : M → M → M) (none : M) (rank : M → ℕ) (b : Block) (w : M) (ts us : List M) (rose : Bool) : Type 0 where
   pub moved : Moved join none rank ts us rose
-  pub meets : rose ≡ false → (c : Code) → Spans xs i j c → FollowsUnder join (marking none ts) w c
-  pub below : (c : Code) → Spans xs i j c → (m : ℕ → M) → FollowsUnder join m w c → Below join none ts m → Below join none us m
+  pub meets : rose ≡ false → (c : Code) → HasCode b c → FollowsUnder join (marking none ts) w c
+  pub below : (c : Code) → HasCode b c → (m : ℕ → M) → FollowsUnder join m w c → Below join none ts m → Below join none us m
 
 -- The table has the own mark of each marked cell, and nothing above what these ask for.
 pub record Started {M : Type 0} (join : M → M → M) (none : M) (own : ℕ → M) (marks : List ℕ) (ts : List M) : Type 0 where

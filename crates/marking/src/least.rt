@@ -8,7 +8,7 @@ use crate::faults::MarkFault;
 use crate::kinds::Mark;
 use crate::marked::Marked;
 use crate::spread::mark_lines;
-use sheet::{Line, Sheet, check_table, read};
+use sheet::{Block, Line, Sheet, check_table, read};
 
 // Checks a sheet's bytes, and that tables of `lines` lines and `marks` marks can take what it needs.
 pub fn check_tables(bytes: &[u8], lines: usize, marks: usize) -> Result<Sheet<'_>, MarkFault>
@@ -33,6 +33,11 @@ pub fn least_marking<'a, M: Mark>(
 {
     check_tables(bytes, lines.len(), marks.len())?;
     let sheet = read(bytes, lines)?;
-    let passes = mark_lines(lines, sheet.lines, sheet.marks, sheet.cells, marks);
+    let whole = Block {
+        lines,
+        from: 0,
+        to: sheet.lines,
+    };
+    let passes = mark_lines(whole, sheet.marks, sheet.cells, marks);
     Ok(Marked { sheet, passes })
 }

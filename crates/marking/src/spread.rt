@@ -1,27 +1,13 @@
 // Spreads the marks of a sheet's cells over its lines, for any kind of marks.
 ghost use Rattle.std.specs.Prelude.{◌≡◌, ℕ, ◌+◌, ◌*◌, ◌<◌, ◌≤◌, true, false, length, take, drop, slice_set};
-ghost use Rattle.sheet.specs.Code.{Code, Keeps};
+ghost use Rattle.sheet.specs.Blocks.{HasCode};
+ghost use Rattle.sheet.specs.Code.{Code};
 ghost use Rattle.sheet.specs.Layout.{Rising};
-ghost use Rattle.sheet.specs.Spans.{Spans, end_of};
 ghost use Rattle.marking.specs.Rules.{AtLeast, Least};
 ghost use Rattle.marking.specs.Spread.{marking, Passed, Reads, Started};
 
 use crate::kinds::Mark;
-use sheet::Line;
-
-// The number that an `else` line has of its `end`.
-fn end_of(line: Line) -> usize
-    ensures { result ≡ end_of line }
-{
-    match line {
-        Line::Else { partner } => partner,
-        Line::Work { .. } => 0,
-        Line::Literal { .. } => 0,
-        Line::If { .. } => 0,
-        Line::End { .. } => 0,
-        Line::Loop { .. } => 0,
-    }
-}
+use sheet::{Block, Construct};
 
 fn mark_of<M: Mark>(marks: &[M], cell: u8) -> M
     requires { cell < length marks.now }
@@ -62,42 +48,35 @@ fn raise<M: Mark>(marks: &mut [M], cell: u8, mark: M) -> bool
     true
 }
 
-// Goes once through the lines from `from` up to `to`, which stand under conditions whose marks, joined, are `around`.
-// What a line writes gets the marks of what it reads and of those conditions. Says whether any mark rose.
-fn spread_block<M: Mark>(lines: &[Line], from: usize, to: usize, around: M, marks: &mut [M]) -> bool
-    requires reads { Reads lines.now (length marks.old) from to }
-    requires ordered { from ≤ to }
-    requires inside { to ≤ length lines.now }
-    ensures { Passed M.joined M.unmarked M.rank lines.now from to around marks.old marks.new result }
+// Goes once through a block that stands under conditions whose marks, joined, are `around`. What a line writes gets the
+// marks of what it reads and of those conditions. Says whether any mark rose.
+fn spread_block<M: Mark>(block: Block<'_>, around: M, marks: &mut [M]) -> bool
+    requires { Reads block (length marks.old) }
+    ensures { Passed M.joined M.unmarked M.rank block.entry around marks.old marks.new result }
 {
-    let mut i = from;
     let mut rose = false;
-    while i < to {
-        let line = lines[i];
-        match line {
-            Line::Work { target, a, b, .. } => {
+    for construct in block {
+        match construct {
+            Construct::Work { target, a, b, .. } => {
                 let mark = given_mark(marks, a, b, around);
                 rose |= raise(marks, target, mark);
-                i += 1;
             }
-            Line::Literal { target, .. } => {
+            Construct::Literal { target, .. } => {
                 rose |= raise(marks, target, around);
-                i += 1;
             }
-            Line::If { cell, partner } => {
+            Construct::If {
+                cell,
+                first,
+                second,
+            } => {
                 let inside = around_blocks(marks, cell, around);
-                let end = end_of(lines[partner]);
-                rose |= spread_block(lines, i + 1, partner, inside, marks);
-                rose |= spread_block(lines, partner + 1, end, inside, marks);
-                i = end + 1;
+                rose |= spread_block(first, inside, marks);
+                rose |= spread_block(second, inside, marks);
             }
-            Line::Loop { cell, partner, .. } => {
+            Construct::Loop { cell, body, .. } => {
                 let inside = around_blocks(marks, cell, around);
-                rose |= spread_block(lines, i + 1, partner, inside, marks);
-                i = partner + 1;
+                rose |= spread_block(body, inside, marks);
             }
-            Line::Else { .. } => unreachable(),
-            Line::End { .. } => unreachable(),
         }
     }
     rose
@@ -123,26 +102,24 @@ fn start<M: Mark>(marked: &[u8], marks: &mut [M])
 }
 
 // Goes once through all the lines. Says whether any mark rose.
-fn pass<M: Mark>(lines: &[Line], count: usize, marks: &mut [M]) -> bool
-    requires reads { Reads lines.now (length marks.old) 0 count }
-    requires inside { count ≤ length lines.now }
-    ensures { Passed M.joined M.unmarked M.rank lines.now 0 count M.unmarked marks.old marks.new result }
+fn pass<M: Mark>(whole: Block<'_>, marks: &mut [M]) -> bool
+    requires { Reads whole (length marks.old) }
+    ensures { Passed M.joined M.unmarked M.rank whole.entry M.unmarked marks.old marks.new result }
 {
-    spread_block(lines, 0, count, M::none(), marks)
+    spread_block(whole, M::none(), marks)
 }
 
 // Starts from the own marks and goes through the lines until no mark rises. Returns how often it went through them.
-fn settle<M: Mark>(lines: &[Line], count: usize, marked: &[u8], marks: &mut [M]) -> usize
-    requires reads { Reads lines.now (length marks.old) 0 count }
-    requires inside { count ≤ length lines.now }
+fn settle<M: Mark>(whole: Block<'_>, marked: &[u8], marks: &mut [M]) -> usize
+    requires reads { Reads whole (length marks.old) }
     requires few { length marks.old ≤ 64 }
     requires rising { Rising (length marks.old) 0 marked.now }
-    ensures least { (c : Code) → Spans lines.now 0 count c → Least M.joined M.owned (marking M.unmarked marks.new) marked.now c }
+    ensures least { (c : Code) → HasCode whole.entry c → Least M.joined M.owned (marking M.unmarked marks.new) marked.now c }
     ensures passes { result ≤ M.height * length marks.old + 1 }
 {
     start(marked, marks);
     let mut passes = 1;
-    while pass(lines, count, marks) {
+    while pass(whole, marks) {
         passes += 1;
     }
     passes
@@ -150,29 +127,28 @@ fn settle<M: Mark>(lines: &[Line], count: usize, marked: &[u8], marks: &mut [M])
 
 // The least marking of the first `cells` cells, into the first `cells` marks. Returns how often it went through the lines.
 pub(crate) fn mark_lines<M: Mark>(
-    lines: &[Line],
-    count: usize,
+    whole: Block<'_>,
     marked: &[u8],
     cells: usize,
     marks: &mut [M],
 ) -> usize
-    requires reads { (c : Code) × Spans lines.now 0 count c × Keeps cells 6 c }
-    requires inside { count ≤ length lines.now }
+    requires reads { Reads whole cells }
     requires room { cells ≤ length marks.old }
     requires few { cells ≤ 64 }
     requires rising { Rising cells 0 marked.now }
-    ensures least { (c : Code) → Spans lines.now 0 count c → Least M.joined M.owned (marking M.unmarked (take cells marks.new)) marked.now c }
+    ensures least { (c : Code) → HasCode whole.entry c → Least M.joined M.owned (marking M.unmarked (take cells marks.new)) marked.now c }
     ensures rest { drop cells marks.new ≡ drop cells marks.old }
     ensures long { length marks.new ≡ length marks.old }
     ensures passes { result ≤ M.height * cells + 1 }
 {
-    settle(lines, count, marked, &mut marks[..cells])
+    settle(whole, marked, &mut marks[..cells])
 }
 
 #[cfg(test)]
 mod tests {
     use super::*;
     use crate::origins::Origins;
+    use sheet::Line;
     use std::test::Fail;
 
     // The second cell is written under the first, which is marked, and the third reads the second before that.
@@ -197,7 +173,12 @@ mod tests {
             Line::End { partner: 1 },
         ];
         let mut marks = [true; 5];
-        let passes = mark_lines(&lines, 5, &[0], 4, &mut marks);
+        let whole = Block {
+            lines: &lines,
+            from: 0,
+            to: 5,
+        };
+        let passes = mark_lines(whole, &[0], 4, &mut marks);
         assert!(rt; marks[0] && marks[1] && marks[2]);
         assert!(rt; !marks[3] && marks[4]);
         assert_eq!(rt; passes, 3);
@@ -222,7 +203,12 @@ mod tests {
             Line::End { partner: 0 },
         ];
         let mut marks = [Origins::none(); 3];
-        let passes = mark_lines(&lines, 3, &[0, 2], 3, &mut marks);
+        let whole = Block {
+            lines: &lines,
+            from: 0,
+            to: 3,
+        };
+        let passes = mark_lines(whole, &[0, 2], 3, &mut marks);
         assert!(rt; marks[1].contains(0) && marks[1].contains(2));
         assert!(rt; !marks[1].contains(1) && !marks[0].contains(2));
         assert_eq!(rt; passes, 2);

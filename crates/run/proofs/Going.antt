@@ -1,6 +1,6 @@
 -- The branching run, construct by construct.
 use Rattle.std.proofs.Common.{Ok, Err, Result, ◌≡◌, ℕ, suc, ◌+◌, Bool, true, false, List, sym, ap, ◌∙◌, arith}
-use Rattle.sheet.specs.Blocks.{Holds, Heads}
+use Rattle.sheet.specs.Blocks.{HasCode, Heads}
 use Rattle.sheet.specs.Code.{Code, size_of}
 use Rattle.sheet.specs.declared.block.Block.{Block}
 use Rattle.sheet.specs.declared.block.Construct.TheVariants.{If, Loop}
@@ -18,14 +18,14 @@ broke_on (Ok x) e w h = absurd h
 broke_on (Err x) e w h = ap (λ y. broke y w) h
 
 -- A block that begins with a construct comes to what the construct comes to, and then to what is left.
-module _ (v : Values) (b d : Block) (w : List ℕ) (c : Code) (holds : Holds b c) where
+module _ (v : Values) (b d : Block) (w : List ℕ) (c : Code) (holds : HasCode b c) where
   pub record Goes (o : Out) : Type 0 where
     pub rest : Code
-    pub left : Holds d rest
+    pub left : HasCode d rest
     pub is : branching v c b.from w ≡ after o (branching v rest d.from)
 
   module _ (x : ℕ) (p q : Block) (h : Heads b (If x p q) d) (o : Out) where
-    pub after_first : is_true v w x ≡ true → ((f : Code) → Holds p f → o ≡ branching v f p.from w) → Goes o
+    pub after_first : is_true v w x ≡ true → ((f : Code) → HasCode p f → o ≡ branching v f p.from w) → Goes o
     after_first t g =
         let n = h.begins c holds in
         let f = n.1.0 in
@@ -46,7 +46,7 @@ module _ (v : Values) (b d : Block) (w : List ℕ) (c : Code) (holds : Holds b c
               ∙ ap (λ k. after o (branching v r k)) past;
         }
 
-    pub after_second : is_true v w x ≡ false → ((s : Code) → Holds q s → o ≡ branching v s q.from w) → Goes o
+    pub after_second : is_true v w x ≡ false → ((s : Code) → HasCode q s → o ≡ branching v s q.from w) → Goes o
     after_second t g =
         let n = h.begins c holds in
         let f = n.1.0 in
@@ -67,7 +67,7 @@ module _ (v : Values) (b d : Block) (w : List ℕ) (c : Code) (holds : Holds b c
               ∙ ap (λ k. after o (branching v r k)) past;
         }
 
-  pub after_loop : (l x n : ℕ) (p : Block) (h : Heads b (Loop l x n p) d) (o : Out) → ((f : Code) → Holds p f → o ≡ passes v x l (branching v f p.from) n w) → Goes o
+  pub after_loop : (l x n : ℕ) (p : Block) (h : Heads b (Loop l x n p) d) (o : Out) → ((f : Code) → HasCode p f → o ≡ passes v x l (branching v f p.from) n w) → Goes o
   after_loop l x n p h o g =
       let e = h.begins c holds in
       let f = e.1.0 in

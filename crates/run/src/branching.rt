@@ -1,7 +1,7 @@
 // The branching run over a block of lines.
 ghost use Rattle.std.specs.Prelude.{◌≡◌, map};
 ghost use Rattle.std.specs.Result.{result_err};
-ghost use Rattle.sheet.specs.Blocks.{Holds};
+ghost use Rattle.sheet.specs.Blocks.{HasCode};
 ghost use Rattle.sheet.specs.Code.{Code};
 ghost use Rattle.run.specs.Branching.{branching as branched, passes as passed, out_of};
 ghost use Rattle.run.specs.Values.{kind_of};
@@ -13,7 +13,7 @@ use value::Value;
 // Runs a block. Where the run breaks, the error is the line of the loop at which it did.
 #[cycle(run_block_run_loop)]
 pub(crate) fn run_block<V: Value>(block: Block<'_>, cells: &mut [V]) -> Result<(), usize>
-    ensures { (c : Code) → Holds block.entry c → out_of (result_err result) (map V.Value.meaning cells.new) ≡ branched (kind_of V.Value) c block.entry.from (map V.Value.meaning cells.old) }
+    ensures { (c : Code) → HasCode block.entry c → out_of (result_err result) (map V.Value.meaning cells.new) ≡ branched (kind_of V.Value) c block.entry.from (map V.Value.meaning cells.old) }
 {
     for construct in block {
         match construct {
@@ -50,7 +50,7 @@ fn run_loop<V: Value>(
     body: Block<'_>,
     cells: &mut [V],
 ) -> Result<(), usize>
-    ensures { (p : Code) → Holds body.entry p → out_of (result_err result) (map V.Value.meaning cells.new) ≡ passed (kind_of V.Value) cell line (branched (kind_of V.Value) p body.entry.from) bound (map V.Value.meaning cells.old) }
+    ensures { (p : Code) → HasCode body.entry p → out_of (result_err result) (map V.Value.meaning cells.new) ≡ passed (kind_of V.Value) cell line (branched (kind_of V.Value) p body.entry.from) bound (map V.Value.meaning cells.old) }
 {
     for _ in 0..bound {
         if !is_true(cells, cell) {

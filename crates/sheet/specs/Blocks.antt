@@ -8,8 +8,8 @@ use Rattle.sheet.specs.declared.block.Construct.{Construct}
 use Rattle.sheet.specs.declared.block.Construct.TheVariants.{Work, Literal, If, Loop}
 
 -- the lines of the block are the code's
-abbrev pub Holds : Block → Code → Type 0
-Holds b c = Spans b.lines.now b.from b.to c
+abbrev pub HasCode : Block → Code → Type 0
+HasCode b c = Spans b.lines.now b.from b.to c
 
 -- Where a construct lies in the table xs whose first line is i: its blocks come between its lines, and j is the line
 -- after it.
@@ -23,17 +23,17 @@ Lies xs i (Loop l x n p) j = (l ≡ i) × (p.lines.now ≡ xs) × (p.from ≡ i 
 abbrev pub Begins : Construct → Code → Code → Type 0
 Begins (Work t o a b) c r = c ≡ work t o a b r
 Begins (Literal t n) c r = c ≡ literal t n r
-Begins (If x p q) c r = (f : Code) × (s : Code) × Holds p f × Holds q s × (c ≡ choose x f s r)
-Begins (Loop l x n p) c r = (f : Code) × Holds p f × (c ≡ repeat x n f r)
+Begins (If x p q) c r = (f : Code) × (s : Code) × HasCode p f × HasCode q s × (c ≡ choose x f s r)
+Begins (Loop l x n p) c r = (f : Code) × HasCode p f × (c ≡ repeat x n f r)
 
 -- The block begins with the construct, and `rest` is what comes after it.
 pub record Heads (b : Block) (x : Construct) (rest : Block) : Type 0 where
   pub lines : rest.lines.now ≡ b.lines.now
   pub to : rest.to ≡ b.to
   pub lies : Lies b.lines.now b.from x rest.from
-  pub begins : (c : Code) → Holds b c → (r : Code) × Begins x c r × Holds rest r
+  pub begins : (c : Code) → HasCode b c → (r : Code) × Begins x c r × HasCode rest r
 
 -- What a block gives when it is asked for its next construct, and what is left of it then.
 abbrev pub Gives : Block → Option Construct → Block → Type 0
-Gives b None rest = (rest ≡ b) × ((c : Code) → Holds b c → c ≡ stop)
+Gives b None rest = (rest ≡ b) × ((c : Code) → HasCode b c → c ≡ stop)
 Gives b (Some x) rest = Heads b x rest

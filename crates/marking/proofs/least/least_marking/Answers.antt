@@ -6,6 +6,14 @@ use Rattle.marking.specs.Rules.{Least}
 use Rattle.marking.specs.Spread.{marking}
 use Rattle.marking.proofs.least.least_marking.Goals as goal
 
+pub invariant_of-whole : goal.invariant_of-whole
+invariant_of-whole g c =
+    let w = c.in_ok-sheet.ensures.reads in
+    let p = w.0 in
+    let lines = w.2.lines in
+    let long = filled_long p c.args.lines.now c.read.new.table w.3 in
+    record { ordered = omega arith; inside = omega arith; reads = ∣ (p.code, filled_spans p c.args.lines.now c.read.new.table c.in_ok-sheet.sheet.lines w.3 lines) ∣₁ }
+
 pub mark_lines-passes-requires : goal.mark_lines-passes-requires
 mark_lines-passes-requires g c =
     let w = c.in_ok-sheet.ensures.reads in
@@ -21,8 +29,7 @@ mark_lines-passes-requires g c =
     let few = law.few in
     let long = filled_long p c.args.lines.now c.read.new.table w.3 in
     record {
-      reads = (p.code, filled_spans p c.args.lines.now c.read.new.table s.lines w.3 lines, subst (λ n. Keeps n 6 p.code) (sym cells) law.keeps);
-      inside = omega arith;
+      reads = (p.code, 6, filled_spans p c.args.lines.now c.read.new.table s.lines w.3 lines, subst (λ n. Keeps n 6 p.code) (sym cells) law.keeps);
       room = omega arith;
       few = omega arith;
       rising = subst (λ n. Rising n 0 s.marks.now) (sym cells) (subst (λ ms. Rising p.cells 0 ms) (sym w.2.marks) law.rising);

@@ -1,7 +1,9 @@
-use Rattle.std.proofs.Common.{◌≡◌, ◌+◌, ◌<◌, Bool, false, ◌||◌, length, sym, refl, subst, arith, rules}
-use Rattle.marking.specs.Spread.{Reads, Passed}
+use Rattle.std.proofs.Common.{Bool, false, ◌||◌, ◌∙◌, subst, arith}
+use Rattle.sheet.specs.Blocks.{Heads}
+use Rattle.sheet.specs.declared.block.Construct.TheVariants.{Work, Literal, If, Loop}
+use Rattle.marking.specs.Spread.{Passed}
 use Rattle.marking.proofs.Order.{Laws}
-use Rattle.marking.proofs.Views.{reads_work, reads_literal, reads_if, reads_loop, no_else, no_end}
+use Rattle.marking.proofs.Views.{reads_work, reads_literal, reads_if, reads_loop}
 use Rattle.marking.proofs.Steps.{Raised, or_more, or_none, pass_none, pass_work, pass_literal, pass_if, pass_loop}
 use Rattle.marking.proofs.spread.+spread_block.Given as given
 use Rattle.marking.proofs.spread.+spread_block.Goals as goal
@@ -11,216 +13,100 @@ laws g =
     let met = g.met.M.Mark in
     record { assoc = met.assoc; comm = met.comm; idem = met.idem; neutral = met.neutral; rises = met.rises; tops = met.tops }
 
--- work lines
-
-pub given_mark-mark-requires : goal.given_mark-mark-requires
-given_mark-mark-requires g t c =
-    let v = reads_work _ _ _ _ (omega arith) c.loop-i.invariant.2 _ _ _ _ c.in-Work.is in
-    record { left = omega (arith, v.left, c.loop-i.auto.marks); right = omega (arith, v.right, c.loop-i.auto.marks) }
-
-pub raise-rose-requires : goal.raise-rose-requires
-raise-rose-requires g t c =
-    let v = reads_work _ _ _ _ (omega arith) c.loop-i.invariant.2 _ _ _ _ c.in-Work.is in
-    omega (arith, v.target, c.loop-i.auto.marks)
-
-pub loop-i-preserved-in-Work : goal.loop-i-preserved-in-Work
-loop-i-preserved-in-Work g t c =
-    let v = reads_work _ _ _ _ (omega arith) c.loop-i.invariant.2 _ _ _ _ c.in-Work.is in
+pub loop-construct-preserved-in-Work : goal.loop-construct-preserved-in-Work
+loop-construct-preserved-in-Work g t c =
+    let b = c.loop-construct.construct-iterator in
+    let d = c.next.new.self in
+    let h : Heads b (Work c.in-Work.target c.in-Work.op c.in-Work.a c.in-Work.b) d = subst (λ x. Heads b x d) c.in-Work.is c.in-Some.ensures.steps in
+    let v = reads_work b d _ c.loop-construct.invariant.2 _ _ _ _ h in
     let join = g.M.Mark.joined in
     let none = g.M.Mark.unmarked in
-    let ts = c.loop-i.marks in
+    let ts = c.loop-construct.marks in
     let us = c.raise-rose.new.marks in
     let w = c.args.around in
     let q = c.raise-rose.result in
-    let d : Raised join none ts us c.in-Work.target c.given_mark-mark.result q =
-    record { inside = omega (arith, v.target, c.loop-i.auto.marks); after = c.raise-rose.ensures.after; rises = c.raise-rose.ensures.rose; stays = c.raise-rose.ensures.stayed } in
-    let d' = subst (λ y. Raised join none ts us c.in-Work.target y q) c.given_mark-mark.ensures d in (
-      omega arith,
-      omega arith,
+    let e : Raised join none ts us c.in-Work.target c.given_mark-mark.result q =
+    record { inside = omega (arith, v.target, c.loop-construct.auto.marks); after = c.raise-rose.ensures.after; rises = c.raise-rose.ensures.rose; stays = c.raise-rose.ensures.stayed } in
+    let e' = subst (λ y. Raised join none ts us c.in-Work.target y q) c.given_mark-mark.ensures e in (
+      h.to ∙ c.loop-construct.invariant.0,
+      omega (arith, h.lies, c.loop-construct.invariant.1),
       v.rest,
-      λ vs r n. or_more (λ q. Passed join none g.M.Mark.rank c.args.lines.now c.args.from c.args.to w c.args.marks.now vs q) c.loop-i.rose q r
-          (c.loop-i.invariant.3 vs _ (pass_work (laws g) c.args.lines.now w c.loop-i.i c.args.to (omega arith) ts us vs _ _ _ _ _ _ c.in-Work.is d' n)),
+      λ vs r n. or_more (λ q. Passed join none g.M.Mark.rank c.args.block w c.args.marks.now vs q) c.loop-construct.rose q r
+          (c.loop-construct.invariant.3 vs _ (pass_work (laws g) w b d ts us vs _ _ _ _ _ _ h e' n)),
     )
 
--- literal lines
-
-pub raise-rose-requires-in-Literal : goal.raise-rose-requires-in-Literal
-raise-rose-requires-in-Literal g t c =
-    let v = reads_literal _ _ _ _ (omega arith) c.loop-i.invariant.2 _ _ c.in-Literal.is in
-    omega (arith, v.target, c.loop-i.auto.marks)
-
-pub loop-i-preserved-in-Literal : goal.loop-i-preserved-in-Literal
-loop-i-preserved-in-Literal g t c =
-    let v = reads_literal _ _ _ _ (omega arith) c.loop-i.invariant.2 _ _ c.in-Literal.is in
+pub loop-construct-preserved-in-Literal : goal.loop-construct-preserved-in-Literal
+loop-construct-preserved-in-Literal g t c =
+    let b = c.loop-construct.construct-iterator in
+    let d = c.next.new.self in
+    let h : Heads b (Literal c.in-Literal.target c.in-Literal.number) d = subst (λ x. Heads b x d) c.in-Literal.is c.in-Some.ensures.steps in
+    let v = reads_literal b d _ c.loop-construct.invariant.2 _ _ h in
     let join = g.M.Mark.joined in
     let none = g.M.Mark.unmarked in
-    let ts = c.loop-i.marks in
+    let ts = c.loop-construct.marks in
     let us = c.raise-rose-in-Literal.new.marks in
     let w = c.args.around in
     let q = c.raise-rose-in-Literal.result in
-    let d : Raised join none ts us c.in-Literal.target w q =
-    record { inside = omega (arith, v.target, c.loop-i.auto.marks); after = c.raise-rose-in-Literal.ensures.after; rises = c.raise-rose-in-Literal.ensures.rose; stays = c.raise-rose-in-Literal.ensures.stayed } in (
-      omega arith,
-      omega arith,
+    let e : Raised join none ts us c.in-Literal.target w q =
+    record { inside = omega (arith, v.target, c.loop-construct.auto.marks); after = c.raise-rose-in-Literal.ensures.after; rises = c.raise-rose-in-Literal.ensures.rose; stays = c.raise-rose-in-Literal.ensures.stayed } in (
+      h.to ∙ c.loop-construct.invariant.0,
+      omega (arith, h.lies, c.loop-construct.invariant.1),
       v.rest,
-      λ vs r n. or_more (λ q. Passed join none g.M.Mark.rank c.args.lines.now c.args.from c.args.to w c.args.marks.now vs q) c.loop-i.rose q r
-          (c.loop-i.invariant.3 vs _ (pass_literal (laws g) c.args.lines.now w c.loop-i.i c.args.to (omega arith) ts us vs _ _ _ _ c.in-Literal.is d n)),
+      λ vs r n. or_more (λ q. Passed join none g.M.Mark.rank c.args.block w c.args.marks.now vs q) c.loop-construct.rose q r
+          (c.loop-construct.invariant.3 vs _ (pass_literal (laws g) w b d ts us vs _ _ _ _ h e n)),
     )
 
--- an if
-
-pub around_blocks-inside-requires : goal.around_blocks-inside-requires
-around_blocks-inside-requires g t c =
-    let v = reads_if _ _ _ _ (omega arith) c.loop-i.invariant.2 _ _ _ c.in-If.is refl in
-    omega (arith, v.cell, c.loop-i.auto.marks)
-
-pub offset_bounds-lines-partner : goal.offset_bounds-lines-partner
-offset_bounds-lines-partner g t c =
-    let v = reads_if _ _ _ _ (omega arith) c.loop-i.invariant.2 _ _ _ c.in-If.is refl in
-    let l : c.in-If.partner < length c.args.lines.now = omega (arith, v.le_second, v.le_rest) in
-    search rules
-
-pub bounds-lines-partner : goal.bounds-lines-partner
-bounds-lines-partner g t c =
-    let v = reads_if _ _ _ _ (omega arith) c.loop-i.invariant.2 _ _ _ c.in-If.is refl in
-    omega (arith, v.le_second, v.le_rest)
-
-pub spread_block-rose-requires : goal.spread_block-rose-requires
-spread_block-rose-requires g t c κs =
-    let v = reads_if _ _ _ _ (omega arith) c.loop-i.invariant.2 _ _ _ c.in-If.is c.end_of-end.ensures in
-    λ lives. (
-      omega (arith, c.decreases, v.le_first, v.le_second, v.le_rest),
-      (
-        lives,
-        (
-          subst (λ n. Reads c.args.lines.now n (c.loop-i.i + 1) c.in-If.partner) (sym c.loop-i.auto.marks) v.first,
-          (v.le_first, omega (arith, v.le_second, v.le_rest)),
-        ),
-      ),
-    )
-
-pub overflow_add-partner : goal.overflow_add-partner
-overflow_add-partner g t c =
-    let v = reads_if _ _ _ _ (omega arith) c.loop-i.invariant.2 _ _ _ c.in-If.is c.end_of-end.ensures in
-    let l : c.in-If.partner < length c.args.lines.now = omega (arith, v.le_second, v.le_rest) in
-    search rules
-
-pub spread_block-rose-requires-in-If : goal.spread_block-rose-requires-in-If
-spread_block-rose-requires-in-If g t c κs =
-    let v = reads_if _ _ _ _ (omega arith) c.loop-i.invariant.2 _ _ _ c.in-If.is c.end_of-end.ensures in
-    let grown = c.spread_block-rose.ensures.moved.long in
-    let long : length c.spread_block-rose.new.marks ≡ length c.args.marks.now = cc in
-    λ lives. (
-      omega (arith, c.decreases, v.le_first, v.le_second, v.le_rest),
-      (
-        lives,
-        (
-          subst (λ n. Reads c.args.lines.now n (c.in-If.partner + 1) c.end_of-end.result) (sym long) v.second,
-          (v.le_second, omega (arith, v.le_rest)),
-        ),
-      ),
-    )
-
-pub overflow_add-i-in-If-2 : goal.overflow_add-i-in-If-2
-overflow_add-i-in-If-2 g t c =
-    let v = reads_if _ _ _ _ (omega arith) c.loop-i.invariant.2 _ _ _ c.in-If.is c.end_of-end.ensures in
-    let l : c.end_of-end.result < length c.args.lines.now = omega (arith, v.le_rest) in
-    search rules
-
-pub loop-i-smaller-in-If : goal.loop-i-smaller-in-If
-loop-i-smaller-in-If g t c =
-    let v = reads_if _ _ _ _ (omega arith) c.loop-i.invariant.2 _ _ _ c.in-If.is c.end_of-end.ensures in
-    omega (arith, v.le_first, v.le_second, v.le_rest)
-
-pub loop-i-preserved-in-If : goal.loop-i-preserved-in-If
-loop-i-preserved-in-If g t c =
-    let v = reads_if _ _ _ _ (omega arith) c.loop-i.invariant.2 _ _ _ c.in-If.is c.end_of-end.ensures in
+pub loop-construct-preserved-in-If : goal.loop-construct-preserved-in-If
+loop-construct-preserved-in-If g t c =
+    let b = c.loop-construct.construct-iterator in
+    let d = c.next.new.self in
+    let p = c.in-If.first in
+    let p' = c.in-If.second in
+    let h : Heads b (If c.in-If.cell p p') d = subst (λ x. Heads b x d) c.in-If.is c.in-Some.ensures.steps in
+    let v = reads_if b d _ c.loop-construct.invariant.2 _ _ _ h in
     let join = g.M.Mark.joined in
     let none = g.M.Mark.unmarked in
-    let xs = c.args.lines.now in
-    let i = c.loop-i.i in
-    let z = c.end_of-end.result in
-    let k = c.in-If.partner in
-    let ts = c.loop-i.marks in
+    let ts = c.loop-construct.marks in
     let us = c.spread_block-rose.new.marks in
     let us' = c.spread_block-rose-in-If.new.marks in
     let w = c.args.around in
     let r₁ = c.spread_block-rose.result in
     let r₂ = c.spread_block-rose-in-If.result in
     let inside = c.around_blocks-inside.ensures in
-    let d₁ = subst (λ y. Passed join none g.M.Mark.rank xs (i + 1) k y ts us r₁) inside c.spread_block-rose.ensures in
-    let d₂ = subst (λ y. Passed join none g.M.Mark.rank xs (k + 1) z y us us' r₂) inside c.spread_block-rose-in-If.ensures in (
-      omega (arith, v.le_first, v.le_second),
-      v.le_rest,
+    let e₁ = subst (λ y. Passed join none g.M.Mark.rank p y ts us r₁) inside c.spread_block-rose.ensures in
+    let e₂ = subst (λ y. Passed join none g.M.Mark.rank p' y us us' r₂) inside c.spread_block-rose-in-If.ensures in (
+      h.to ∙ c.loop-construct.invariant.0,
+      omega (arith, h.lies.1, h.lies.3, h.lies.4, p.ordered, p'.ordered, c.loop-construct.invariant.1),
       v.rest,
       λ vs r n.
-          let P = λ (q : Bool). Passed join none g.M.Mark.rank xs c.args.from c.args.to w c.args.marks.now vs q in
-          or_more P (c.loop-i.rose || r₁) r₂ r (or_more P c.loop-i.rose r₁ (r₂ || r)
-          (c.loop-i.invariant.3 vs _ (pass_if (laws g) xs w i c.args.to (omega arith) ts us us' vs _ _ z r₁ r₂ r c.in-If.is c.end_of-end.ensures d₁ d₂ n))),
+          let P = λ (q : Bool). Passed join none g.M.Mark.rank c.args.block w c.args.marks.now vs q in
+          or_more P (c.loop-construct.rose || r₁) r₂ r (or_more P c.loop-construct.rose r₁ (r₂ || r)
+          (c.loop-construct.invariant.3 vs _ (pass_if (laws g) w b d ts us us' vs _ _ _ r₁ r₂ r h e₁ e₂ n))),
     )
 
--- a loop
-
-pub around_blocks-inside-requires-in-Loop : goal.around_blocks-inside-requires-in-Loop
-around_blocks-inside-requires-in-Loop g t c =
-    let v = reads_loop _ _ _ _ (omega arith) c.loop-i.invariant.2 _ _ _ c.in-Loop.is in
-    omega (arith, v.cell, c.loop-i.auto.marks)
-
-pub spread_block-rose-requires-in-Loop : goal.spread_block-rose-requires-in-Loop
-spread_block-rose-requires-in-Loop g t c κs =
-    let v = reads_loop _ _ _ _ (omega arith) c.loop-i.invariant.2 _ _ _ c.in-Loop.is in
-    λ lives. (
-      omega (arith, c.decreases, v.le_first, v.le_rest),
-      (
-        lives,
-        (
-          subst (λ n. Reads c.args.lines.now n (c.loop-i.i + 1) c.in-Loop.partner) (sym c.loop-i.auto.marks) v.first,
-          (v.le_first, omega (arith, v.le_rest)),
-        ),
-      ),
-    )
-
-pub overflow_add-i-in-Loop-2 : goal.overflow_add-i-in-Loop-2
-overflow_add-i-in-Loop-2 g t c =
-    let v = reads_loop _ _ _ _ (omega arith) c.loop-i.invariant.2 _ _ _ c.in-Loop.is in
-    let l : c.in-Loop.partner < length c.args.lines.now = omega (arith, v.le_rest) in
-    search rules
-
-pub loop-i-smaller : goal.loop-i-smaller
-loop-i-smaller g t c =
-    let v = reads_loop _ _ _ _ (omega arith) c.loop-i.invariant.2 _ _ _ c.in-Loop.is in
-    omega (arith, v.le_first, v.le_rest)
-
-pub loop-i-preserved : goal.loop-i-preserved
-loop-i-preserved g t c =
-    let v = reads_loop _ _ _ _ (omega arith) c.loop-i.invariant.2 _ _ _ c.in-Loop.is in
+pub loop-construct-preserved : goal.loop-construct-preserved
+loop-construct-preserved g t c =
+    let b = c.loop-construct.construct-iterator in
+    let d = c.next.new.self in
+    let p = c.in-Loop.body in
+    let h : Heads b (Loop c.in-Loop.line c.in-Loop.cell c.in-Loop.bound p) d = subst (λ x. Heads b x d) c.in-Loop.is c.in-Some.ensures.steps in
+    let v = reads_loop b d _ c.loop-construct.invariant.2 _ _ _ _ h in
     let join = g.M.Mark.joined in
     let none = g.M.Mark.unmarked in
-    let xs = c.args.lines.now in
-    let i = c.loop-i.i in
-    let z = c.in-Loop.partner in
-    let ts = c.loop-i.marks in
+    let ts = c.loop-construct.marks in
     let us = c.spread_block-rose-in-Loop.new.marks in
     let w = c.args.around in
     let r₁ = c.spread_block-rose-in-Loop.result in
-    let inside = c.around_blocks-inside-in-Loop.ensures in
-    let d = subst (λ y. Passed join none g.M.Mark.rank xs (i + 1) z y ts us r₁) inside c.spread_block-rose-in-Loop.ensures in (
-      omega (arith, v.le_first),
-      v.le_rest,
+    let e = subst (λ y. Passed join none g.M.Mark.rank p y ts us r₁) c.around_blocks-inside-in-Loop.ensures c.spread_block-rose-in-Loop.ensures in (
+      h.to ∙ c.loop-construct.invariant.0,
+      omega (arith, h.lies.2, h.lies.3, p.ordered, c.loop-construct.invariant.1),
       v.rest,
-      λ vs r n. or_more (λ q. Passed join none g.M.Mark.rank xs c.args.from c.args.to w c.args.marks.now vs q) c.loop-i.rose r₁ r
-          (c.loop-i.invariant.3 vs _ (pass_loop (laws g) xs w i c.args.to (omega arith) ts us vs _ _ z r₁ r c.in-Loop.is d n)),
+      λ vs r n. or_more (λ q. Passed join none g.M.Mark.rank c.args.block w c.args.marks.now vs q) c.loop-construct.rose r₁ r
+          (c.loop-construct.invariant.3 vs _ (pass_loop (laws g) w b d ts us vs _ _ _ _ r₁ r h e n)),
     )
-
--- no other line begins a block's rest
-
-pub unreachable-requires : goal.unreachable-requires
-unreachable-requires g t c = no_else _ _ _ _ (omega arith) c.loop-i.invariant.2 _ c.in-Else.is
-
-pub unreachable-requires-in-End : goal.unreachable-requires-in-End
-unreachable-requires-in-End g t c = no_end _ _ _ _ (omega arith) c.loop-i.invariant.2 _ c.in-End.is
 
 pub returns : goal.returns
 returns g t c =
-    let P = λ (q : Bool). Passed g.M.Mark.joined g.M.Mark.unmarked g.M.Mark.rank c.args.lines.now c.args.from c.args.to c.args.around c.args.marks.now c.loop-i.marks q in
-    or_none P c.loop-i.rose (c.loop-i.invariant.3 c.loop-i.marks false (pass_none (laws g) _ _ c.loop-i.i c.args.to c.loop-i.marks (omega arith)))
+    let b = c.loop-construct.construct-iterator in
+    let P = λ (q : Bool). Passed g.M.Mark.joined g.M.Mark.unmarked g.M.Mark.rank c.args.block c.args.around c.args.marks.now c.loop-construct.marks q in
+    or_none P c.loop-construct.rose (c.loop-construct.invariant.3 c.loop-construct.marks false (pass_none (laws g) _ b c.loop-construct.marks c.in-None.ensures.steps.1))

@@ -12,8 +12,7 @@ settle-requires g c =
     let long : n ≡ length (take n c.args.marks.now) = sym (length-take-le n c.args.marks.now c.requires.room) in
     let code = c.requires.reads in
     record {
-      reads = (code.0, 6, code.1, subst (λ k. Keeps k 6 code.0) long code.2);
-      inside = c.requires.inside;
+      reads = (code.0, code.1, code.2, subst (λ k. Keeps k code.1 code.0) long code.3);
       few = subst (λ k. k ≤ 64) long c.requires.few;
       rising = subst (λ k. Rising k 0 c.args.marked.now) long c.requires.rising;
     }

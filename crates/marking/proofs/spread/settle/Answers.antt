@@ -20,7 +20,7 @@ returns g c =
     let long : length ts ≡ length c.args.marks.now = c.loop-passes.auto.marks ∙ c.start.auto.marks in
     record {
       least =
-          least_end (laws g) g.M.Mark.owned c.args.marked.now c.args.lines.now c.args.count ts c.pass.new.marks _ _ refl
+          least_end (laws g) g.M.Mark.owned c.args.marked.now c.args.whole ts c.pass.new.marks _ _ refl
           c.pass.ensures c.loop-passes.invariant.1 c.loop-passes-test.false c.loop-passes.invariant.0;
       passes = subst (λ n. c.loop-passes.passes ≤ g.M.Mark.height * n + 1) long (omega (arith, most, c.loop-passes.invariant.2));
     }
@@ -48,6 +48,6 @@ loop-passes-preserved g c =
     let ts = c.loop-passes.marks in
     let us = c.pass.new.marks in (
       owns_more g.M.Mark.joined g.M.Mark.owned (laws g) (marking none ts) (marking none us) d.moved.grown c.args.marked.now c.loop-passes.invariant.0,
-      pass_under (laws g) g.M.Mark.owned c.args.marked.now c.args.lines.now c.args.count ts us _ _ refl d c.loop-passes.invariant.1,
+      pass_under (laws g) g.M.Mark.owned c.args.marked.now c.args.whole ts us _ _ refl d c.loop-passes.invariant.1,
       omega (arith, d.moved.more c.loop-passes-test.true, c.loop-passes.invariant.2),
     )

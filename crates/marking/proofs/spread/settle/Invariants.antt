@@ -1,6 +1,6 @@
 use Rattle.std.proofs.Common.{ℕ, ◌+◌, ◌-◌, ◌*◌, ◌≤◌, length}
+use Rattle.sheet.specs.Blocks.{HasCode}
 use Rattle.sheet.specs.Code.{Code}
-use Rattle.sheet.specs.Spans.{Spans}
 use Rattle.marking.specs.Rules.{Owns, Rules}
 use Rattle.marking.specs.Spread.{marking, Below, total}
 use Rattle.marking.proofs.spread.settle.Given as goal
@@ -12,7 +12,7 @@ invariant-loop-passes g l =
     let none = g.M.Mark.unmarked in
     let own = g.M.Mark.owned in
     Owns join own (marking none l.marks) l.marked ×
-    ((c : Code) → Spans l.lines 0 l.count c → (m : ℕ → g.row.M.Denot) → Rules join own m l.marked c → Below join none l.marks m) ×
+    ((c : Code) → HasCode l.whole c → (m : ℕ → g.row.M.Denot) → Rules join own m l.marked c → Below join none l.marks m) ×
     (l.passes ≤ total g.M.Mark.rank l.marks + 1)
 
 -- what the ranks lack

@@ -1,5 +1,5 @@
 use Rattle.std.proofs.Common.{◌≡◌, ◌+◌, ◌-◌, ◌*◌, ◌≤◌, map}
-use Rattle.sheet.specs.Blocks.{Holds}
+use Rattle.sheet.specs.Blocks.{HasCode}
 use Rattle.sheet.specs.Code.{Code}
 use Rattle.run.specs.Branching.{branching, passes}
 use Rattle.run.specs.Values.{kind_of}
@@ -18,13 +18,13 @@ invariant-run_block-loop-construct g l =
     let f = g.V.Value.meaning in
     let rest = l.construct-iterator in
     (rest.to ≡ l.fn.block.to) × (l.fn.block.from ≤ rest.from) ×
-    ((c : Code) → Holds l.fn.block c →
-    (r : Code) × Holds rest r × (branching v r rest.from (map f l.cells) ≡ branching v c l.fn.block.from (map f l.initial.cells)))
+    ((c : Code) → HasCode l.fn.block c →
+    (r : Code) × HasCode rest r × (branching v r rest.from (map f l.cells) ≡ branching v c l.fn.block.from (map f l.initial.cells)))
 
 -- the passes that are left bring the cells where all the passes do
 abbrev pub invariant-run_loop-loop : goal.invariant-run_loop-loop
 invariant-run_loop-loop g l =
     let v = kind_of g.V.Value in
     let f = g.V.Value.meaning in
-    (p : Code) → Holds l.body p →
+    (p : Code) → HasCode l.body p →
     passes v l.cell l.line (branching v p l.body.from) (l.bound - l.counter) (map f l.cells) ≡ passes v l.cell l.line (branching v p l.body.from) l.bound (map f l.initial.cells)
