@@ -1,11 +1,11 @@
--- A block as its first line or construct, and the rest.
-use Rattle.std.proofs.Common.{◌≡◌, ℕ, ◌+◌, ◌<◌, ◌≤◌, Bool, List, length, Some, None, sym, refl, ap, ◌∙◌, subst, arith}
+-- A block as its first construct, and the rest.
+use Rattle.std.proofs.Common.{◌≡◌, ℕ, ◌+◌, Bool, List, sym, refl, ap, ◌∙◌, subst, arith}
+use Rattle.sheet.specs.Blocks.{Lies, lines_in, Begins}
 use Rattle.sheet.specs.Code.{Code, stop, work, literal, choose, repeat, size_of}
-use Rattle.sheet.specs.Spans.{line_at, Spans, end_of, past_of}
+use Rattle.sheet.specs.declared.block.Construct.{Construct}
+use Rattle.sheet.specs.declared.block.Construct.TheVariants.{Work, Literal, If, Loop}
 use Rattle.sheet.specs.declared.lines.Line.{Line}
-use Rattle.sheet.specs.declared.lines.Line.TheVariants.{Work, Literal, If, Else, End, Loop}
-use Rattle.sheet.proofs.Heads.{at_work, at_literal, at_if, at_loop, not_else, not_end}
-use Rattle.onepath.specs.Plain.{plain_step, Begins}
+use Rattle.sheet.proofs.Heads.{spans_size}
 use Rattle.onepath.specs.Holds.{Holds}
 use Rattle.onepath.specs.declared.steps.Step.{Step}
 
@@ -17,86 +17,38 @@ follow (literal t n r) s = literal t n (follow r s)
 follow (choose x p q r) s = choose x p q (follow r s)
 follow (repeat x n p r) s = repeat x n p (follow r s)
 
--- the code of the lines from i up to j, cut at z
-pub record Parts (xs : List Line) (i z j : ℕ) (c : Code) : Type 0 where
+-- the code c, cut after the construct
+pub record Cut (x : Construct) (c r : Code) : Type 0 where
   pub one : Code
-  pub rest : Code
-  pub is : c ≡ follow one rest
-  pub spans_one : Spans xs i z one
-  pub spans_rest : Spans xs z j rest
-  pub more : i < z
-  pub within : z ≤ j
+  pub begins : Begins x one stop
+  pub is : c ≡ follow one r
 
-pub never : {A : Type 0} → ◌≡◌ {A = ℕ} 0 1 → A
-never e = absurd (omega (arith, e))
+pub cut : (x : Construct) (c r : Code) → Begins x c r → Cut x c r
+cut (Work t o a b) c r h = record { one = work t o a b stop; begins = refl; is = h }
+cut (Literal t n) c r h = record { one = literal t n stop; begins = refl; is = h }
+cut (If x p q) c r h = record { one = choose x h.0 h.1 stop; begins = (h.0, h.1, h.2, h.3, refl); is = h.4 }
+cut (Loop l x n p) c r h = record { one = repeat x n h.0 stop; begins = (h.0, h.1, refl); is = h.2 }
 
-module _ (xs : List Line) (i j : ℕ) (more : i ≡ j → ⊥) (k : ℕ) where
-  -- a plain line, and the rest
-  pub part_plain : (s : Step) (l : Line) → line_at xs i ≡ l → Some s ≡ plain_step l k → (c : Code) → Spans xs i j c → Parts xs i (i + 1) j c
-  part_plain s (Work t o a b) w e c h =
-      let v = at_work xs i j more t o a b w c h in
-      record { one = work t o a b stop; rest = v.rest; is = v.is; spans_one = (w, refl); spans_rest = v.spans; more = omega arith; within = v.le }
-  part_plain s (Literal t n) w e c h =
-      let v = at_literal xs i j more t n w c h in
-      record { one = literal t n stop; rest = v.rest; is = v.is; spans_one = (w, refl); spans_rest = v.spans; more = omega arith; within = v.le }
-  part_plain s (If x m) w e c h = never (cc)
-  part_plain s (Else z) w e c h = never (cc)
-  part_plain s (End b) w e c h = never (cc)
-  part_plain s (Loop x n z) w e c h = never (cc)
+-- where the construct ends: as many lines on as it has
+pub lies_lines : (xs : List Line) (i j : ℕ) (x : Construct) → Lies xs i x j → j ≡ i + lines_in x
+lies_lines xs i j (Work t o a b) h = h
+lies_lines xs i j (Literal t n) h = h
+lies_lines xs i j (If x p q) h = omega (arith, h.1, h.3, h.4, p.ordered, q.ordered)
+lies_lines xs i j (Loop l x n p) h = omega (arith, h.2, h.3, p.ordered)
 
-  -- a construct up to z, and the rest
-  pub part_construct : (z : ℕ) (l : Line) → line_at xs i ≡ l → z ≡ past_of xs l → None ≡ plain_step l k → (c : Code) → Spans xs i j c → Parts xs i z j c
-  part_construct z (Work t o a b) w ez e c h = never (cc)
-  part_construct z (Literal t n) w ez e c h = never (cc)
-  part_construct z (If x m) w ez e c h =
-      let v = at_if xs i j more x m w c h in
-      let zz : v.z + 1 ≡ z = sym (ez ∙ ap (λ y. end_of y + 1) v.mid) in
-      let l₁ = v.le_first in
-      let l₂ = v.le_second in
-      let l₃ = v.le_rest in
-      record {
-        one = choose x v.first v.second stop;
-        rest = v.rest;
-        is = v.is;
-        spans_one = (m, v.z, w, v.spans_first, v.mid, v.spans_second, v.end, zz);
-        spans_rest = subst (λ y. Spans xs y j v.rest) zz v.spans_rest;
-        more = omega arith;
-        within = omega arith;
-      }
-  part_construct z (Else y) w ez e c h = absurd (not_else xs i j more y w c h)
-  part_construct z (End y) w ez e c h = absurd (not_end xs i j more y w c h)
-  part_construct z (Loop x n y) w ez e c h =
-      let v = at_loop xs i j more x n y w c h in
-      let l₁ = v.le_first in
-      let l₂ = v.le_rest in
-      record {
-        one = repeat x n v.first stop;
-        rest = v.rest;
-        is = v.is;
-        spans_one = (y, w, v.spans_first, v.end, sym ez);
-        spans_rest = subst (λ u. Spans xs u j v.rest) (sym ez) v.spans_rest;
-        more = omega arith;
-        within = omega arith;
-      }
-
--- the lines that an opening line names stand in the table
-pub begins_if : (xs : List Line) (i x m : ℕ) → line_at xs i ≡ If x m → Begins xs i → (m < length xs) × (end_of (line_at xs m) < length xs)
-begins_if xs i x m w b =
-    let l = b.2 in
-    let l₀ = b.3 in
-    let v = at_if xs i b.0 (omega arith) x m w b.1 b.4 in
-    let e : end_of (line_at xs m) ≡ v.z = ap end_of v.mid in
-    let l₂ = v.le_second in
-    let l₃ = v.le_rest in
-    (omega arith, omega (arith, e))
-
-pub begins_loop : (xs : List Line) (i x n z : ℕ) → line_at xs i ≡ Loop x n z → Begins xs i → z < length xs
-begins_loop xs i x n z w b =
-    let l = b.2 in
-    let l₀ = b.3 in
-    let v = at_loop xs i b.0 (omega arith) x n z w b.1 b.4 in
-    let l₁ = v.le_rest in
-    omega arith
+-- ... which are as many as its code has
+pub lies_size : (xs : List Line) (i j : ℕ) (x : Construct) → Lies xs i x j → (c : Code) → Begins x c stop → j ≡ i + size_of c
+lies_size xs i j (Work t o a b) h c e = h ∙ ap (λ y. i + size_of y) (sym e)
+lies_size xs i j (Literal t n) h c e = h ∙ ap (λ y. i + size_of y) (sym e)
+lies_size xs i j (If x p q) h c e =
+    let m = spans_size p.lines.now p.from p.to e.0 e.2 in
+    let n = spans_size q.lines.now q.from q.to e.1 e.3 in
+    let s : i + (3 + size_of e.0 + size_of e.1 + 0) ≡ i + size_of c = ap (λ y. i + size_of y) (sym e.4) in
+    omega (arith, h.1, h.3, h.4, m, n, s)
+lies_size xs i j (Loop l x n p) h c e =
+    let m = spans_size p.lines.now p.from p.to e.0 e.1 in
+    let s : i + (2 + size_of e.0 + 0) ≡ i + size_of c = ap (λ y. i + size_of y) (sym e.2) in
+    omega (arith, h.2, h.3, m, s)
 
 module _ (cov : ℕ → Bool) (ts : List Step) (k d : ℕ) where
   holds_moved : (l l' i i' j : ℕ) (c : Code) → l ≡ l' → i ≡ i' → Holds cov ts k d l i j c → Holds cov ts k d l' i' j c

@@ -1,7 +1,9 @@
 -- The step table read by places: the form in which the functions that fill it speak of it.
 use Rattle.std.specs.Prelude.{◌≡◌, ℕ, ◌+◌, ◌-◌, ◌*◌, ◌<◌, ◌≤◌, Bool, true, false, List, length, slice_index_or}
+use Rattle.sheet.specs.Blocks.{HasCode, lines_in, Lies, Begins}
 use Rattle.sheet.specs.Code.{Code, stop, work, literal, choose, repeat, size_of}
-use Rattle.sheet.specs.Spans.{Spans}
+use Rattle.sheet.specs.declared.block.Block.{Block}
+use Rattle.sheet.specs.declared.block.Construct.{Construct}
 use Rattle.sheet.specs.declared.lines.Line.{Line}
 use Rattle.onepath.specs.Cover.{loop_covered, level_in, loops_in}
 use Rattle.onepath.specs.Own.{if_head, if_middle, loop_head, loop_test, loop_back}
@@ -33,12 +35,20 @@ Holds covered ts k d l i j (repeat x n p r) =
     let end = l + 1 + size_of p in
     (m : ℕ) × (e : ℕ) × (step_at ts i ≡ loop_head b own d) × (step_at ts (i + 1) ≡ loop_test b own d x n (m + 1) l) × Holds covered ts own (loops_in b d) (l + 1) (i + 2) m p × (step_at ts m ≡ loop_back b own n (i + 1)) × LoopEnd b ts own x l (m + 1) e × Holds covered ts k d (end + 1) e j r
 
--- Converting the lines from i up to j made the steps us of the steps ts: those of the lines stand from `at` up to r,
--- and the others are as they were.
-pub record Converted (covered : ℕ → Bool) (xs : List Line) (k d i j : ℕ) (ts us : List Step) (at r : ℕ) : Type 0 where
+-- Converting n lines made the steps us of the steps ts: theirs stand from `at` up to r, and the others are as they were.
+pub record Written (n : ℕ) (ts us : List Step) (at r : ℕ) : Type 0 where
   pub below : (x : ℕ) → x < at → step_at us x ≡ step_at ts x
   pub above : (x : ℕ) → r ≤ x → step_at us x ≡ step_at ts x
   pub long : length us ≡ length ts
   pub least : at ≤ r
-  pub most : r ≤ at + 2 * (j - i)
-  pub holds : (c : Code) → Spans xs i j c → Holds covered us k d i at r c
+  pub most : r ≤ at + 2 * n
+
+-- the block was converted: the steps are those of its code
+pub record Converted (covered : ℕ → Bool) (b : Block) (k d : ℕ) (ts us : List Step) (at r : ℕ) : Type 0 where
+  pub written : Written (b.to - b.from) ts us at r
+  pub holds : (c : Code) → HasCode b c → Holds covered us k d b.from at r c
+
+-- the construct was converted, whatever its first line i is
+pub record ConvertedOne (covered : ℕ → Bool) (x : Construct) (k d : ℕ) (ts us : List Step) (at r : ℕ) : Type 0 where
+  pub written : Written (lines_in x) ts us at r
+  pub holds : (xs : List Line) (i j : ℕ) → Lies xs i x j → (c : Code) → Begins x c stop → Holds covered us k d i at r c

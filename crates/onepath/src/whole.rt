@@ -9,7 +9,7 @@ use crate::faults::ConvertFault;
 use crate::paths::OnePath;
 use crate::steps::Step;
 use marking::least_marking;
-use sheet::{Line, Sheet};
+use sheet::{Block, Line, Sheet};
 
 // Checks a sheet's bytes, and that tables of so many lines, marks and steps can take what it needs.
 pub fn check_tables(
@@ -41,7 +41,12 @@ pub fn convert<'a>(
     check_tables(bytes, lines.len(), marks.len(), steps.len())?;
     let marked = least_marking(bytes, lines, marks)?;
     let sheet = marked.sheet;
-    let count = convert_lines(lines, sheet.lines, &marks[0..sheet.cells], steps);
+    let whole = Block {
+        lines,
+        from: 0,
+        to: sheet.lines,
+    };
+    let count = convert_lines(whole, &marks[0..sheet.cells], steps);
     Ok(OnePath {
         sheet,
         steps: count,

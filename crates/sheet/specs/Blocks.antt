@@ -1,5 +1,5 @@
 -- Blocks, and the constructs that they are made of.
-use Rattle.std.specs.Prelude.{◌≡◌, ℕ, ◌+◌, List, Some, None, Option}
+use Rattle.std.specs.Prelude.{◌≡◌, ℕ, ◌+◌, ◌-◌, List, Some, None, Option}
 use Rattle.sheet.specs.Code.{Code, stop, work, literal, choose, repeat}
 use Rattle.sheet.specs.Spans.{Spans}
 use Rattle.sheet.specs.declared.lines.Line.{Line}
@@ -18,6 +18,13 @@ Lies xs i (Work t o a b) j = j ≡ i + 1
 Lies xs i (Literal t n) j = j ≡ i + 1
 Lies xs i (If x p q) j = (p.lines.now ≡ xs) × (p.from ≡ i + 1) × (q.lines.now ≡ xs) × (q.from ≡ p.to + 1) × (j ≡ q.to + 1)
 Lies xs i (Loop l x n p) j = (l ≡ i) × (p.lines.now ≡ xs) × (p.from ≡ i + 1) × (j ≡ p.to + 1)
+
+-- how many lines the construct has
+abbrev pub lines_in : Construct → ℕ
+lines_in (Work t o a b) = 1
+lines_in (Literal t n) = 1
+lines_in (If x p q) = (p.to - p.from) + (q.to - q.from) + 3
+lines_in (Loop l x n p) = (p.to - p.from) + 2
 
 -- the code c is the construct and then the code r
 abbrev pub Begins : Construct → Code → Code → Type 0

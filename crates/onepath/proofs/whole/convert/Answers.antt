@@ -4,6 +4,14 @@ use Rattle.onepath.specs.Cover.{covered_in}
 use Rattle.onepath.specs.Listed.{steps_of}
 use Rattle.onepath.proofs.whole.convert.Goals as goal
 
+pub invariant_of-whole : goal.invariant_of-whole
+invariant_of-whole c =
+    let w = c.in_ok-marked.ensures.marks in
+    let p = w.0 in
+    let lines = w.2.lines in
+    let long = filled_long p c.args.lines.now c.least_marking.new.lines w.3 in
+    record { ordered = omega arith; inside = omega arith; reads = ∣ (p.code, filled_spans p c.args.lines.now c.least_marking.new.lines c.in_ok-marked.marked.sheet.lines w.3 lines) ∣₁ }
+
 pub convert_lines-count-requires : goal.convert_lines-count-requires
 convert_lines-count-requires c =
     let w = c.in_ok-marked.ensures.marks in
@@ -14,13 +22,7 @@ convert_lines-count-requires c =
     let same' = laid_lines c.args.bytes.now f.program f.laid in
     let room = f.steps in
     let short = w.1.lawful.short in
-    let long = filled_long p c.args.lines.now c.least_marking.new.lines w.3 in
-    record {
-      reads = (p.code, filled_spans p c.args.lines.now c.least_marking.new.lines c.in_ok-marked.marked.sheet.lines w.3 lines);
-      inside = omega arith;
-      few = omega arith;
-      room = omega arith;
-    }
+    record { few = omega arith; room = omega arith }
 
 pub returns : goal.returns
 returns c =

@@ -89,7 +89,7 @@ unreachable-requires c =
     let b = c.args.self.now in
     ∥∥₁_elim b.reads (λ x y. absurd x)
     (λ k. elim c.in-Else.is [
-        inl h ↦ not_else b.lines.now b.from b.to c.if-from-to.false h.0 h.1 k.0 k.1
+      | inl h ↦ not_else b.lines.now b.from b.to c.if-from-to.false h.0 h.1 k.0 k.1
       | inr h ↦ not_end b.lines.now b.from b.to c.if-from-to.false h.0 h.1 k.0 k.1
     ])
 
