@@ -9,7 +9,7 @@ use Rattle.sheet.specs.declared.block.Construct.TheVariants.{Work, Literal, If, 
 use Rattle.sheet.proofs.Heads.{spans_size}
 use Rattle.onepath.specs.Cover.{loop_covered, level_in, loops_in}
 use Rattle.onepath.specs.Own.{if_head, if_middle, loop_head, loop_test, loop_back}
-use Rattle.onepath.specs.Put.{put_if, put_end, past_end, put_loop}
+use Rattle.onepath.specs.Put.{form_of, put_if, past_end, put_loop}
 use Rattle.onepath.specs.Holds.{step_at, Holds, LoopEnd, Written, Converted, ConvertedOne}
 use Rattle.onepath.specs.declared.steps.Step.{Step}
 use Rattle.onepath.specs.declared.steps.Step.TheVariants.{Work as WorkStep, Literal as LiteralStep, Close}
@@ -78,10 +78,37 @@ within : (cov : ℕ → Bool) (b : Block) (k k' d d' : ℕ) (ts us : List Step) 
     Converted cov b k d ts us at r → Converted cov b k' d' ts us at r
 within cov b k k' d d' ts us at r e f h = subst (λ y. Converted cov b k' y ts us at r) f (subst (λ y. Converted cov b y d ts us at r) e h)
 
+-- what is put, by whether the construct is covered: k is its own level, d its counter
+abbrev by_if : Bool → ℕ → ℕ → ℕ → ℕ → ℕ → List Step → List Step
+by_if b k x i m j ts = set (set ts i (if_head b k x (m + 1))) m (if_middle b k j)
+
+abbrev by_end : Bool → ℕ → ℕ → ℕ → ℕ → List Step → List Step
+by_end true k x l m ts = set ts m (Close k x l)
+by_end false k x l m ts = ts
+
+abbrev past : Bool → ℕ → ℕ
+past true m = m + 1
+past false m = m
+
+abbrev by_loop : Bool → ℕ → ℕ → ℕ → ℕ → ℕ → ℕ → ℕ → List Step → List Step
+by_loop b k d x n l i m ts = by_end b k x l (m + 1) (set (set (set ts i (loop_head b k d)) (i + 1) (loop_test b k d x n (m + 1) l)) m (loop_back b k n (i + 1)))
+
+puts_if : (b : Bool) (k d x i m j : ℕ) (ts : List Step) → put_if (form_of b k d) x i m j ts ≡ by_if b k x i m j ts
+puts_if true k d x i m j ts = refl
+puts_if false k d x i m j ts = refl
+
+puts_loop : (b : Bool) (k d x n l i m : ℕ) (ts : List Step) → put_loop (form_of b k d) x n l i m ts ≡ by_loop b k d x n l i m ts
+puts_loop true k d x n l i m ts = refl
+puts_loop false k d x n l i m ts = refl
+
+puts_past : (b : Bool) (k d m : ℕ) → past_end (form_of b k d) m ≡ past b m
+puts_past true k d m = refl
+puts_past false k d m = refl
+
 -- an if: both blocks are converted, and then its own steps are written
 if_put : (cov : ℕ → Bool) (k d : ℕ) (ts us vs : List Step) (at m r x : ℕ) (p q : Block) → at + 2 * lines_in (If x p q) ≤ length ts →
     Converted cov p (level_in (cov x) k) d ts us (at + 1) m → Converted cov q (level_in (cov x) k) d us vs (m + 1) r →
-    ConvertedOne cov (If x p q) k d ts (put_if (cov x) (level_in (cov x) k) x at m r vs) at r
+    ConvertedOne cov (If x p q) k d ts (by_if (cov x) (level_in (cov x) k) x at m r vs) at r
 if_put cov k d ts us vs at m r x p q room d₁ d₂ =
     let own = level_in (cov x) k in
     let s₁ = if_head (cov x) own x (m + 1) in
@@ -128,12 +155,12 @@ if_put cov k d ts us vs at m r x p q room d₁ d₂ =
 pub whole_if : (cov : ℕ → Bool) (k d : ℕ) (ts us vs zs : List Step) (at m r x : ℕ) (p q : Block) (b : Bool) (own loops : ℕ) → at + 2 * lines_in (If x p q) ≤ length ts →
     b ≡ cov x → own ≡ level_in b k → loops ≡ d →
     Converted cov p own loops ts us (at + 1) m → Converted cov q own loops us vs (m + 1) r →
-    zs ≡ put_if b own x at m r vs → ConvertedOne cov (If x p q) k d ts zs at r
+    zs ≡ put_if (form_of b own d) x at m r vs → ConvertedOne cov (If x p q) k d ts zs at r
 whole_if cov k d ts us vs zs at m r x p q b own loops room eb eo ed c₁ c₂ ez =
     let eo' : own ≡ level_in (cov x) k = eo ∙ ap (λ y. level_in y k) eb in
     let d₁ = within cov p own _ loops d ts us (at + 1) m eo' ed c₁ in
     let d₂ = within cov q own _ loops d us vs (m + 1) r eo' ed c₂ in
-    let put = ez ∙ ap (λ y. put_if y own x at m r vs) eb ∙ ap (λ y. put_if (cov x) y x at m r vs) eo' in
+    let put = ez ∙ puts_if b own d x at m r vs ∙ ap (λ y. by_if y own x at m r vs) eb ∙ ap (λ y. by_if (cov x) y x at m r vs) eo' in
     subst (λ y. ConvertedOne cov (If x p q) k d ts y at r) (sym put) (if_put cov k d ts us vs at m r x p q room d₁ d₂)
 
 -- writing a covered loop's last step leaves the other steps
@@ -145,7 +172,7 @@ pub record Ended (b : Bool) (ts us : List Step) (k x l m j : ℕ) : Type 0 where
   pub most : j ≤ m + 1
   pub end : LoopEnd b us k x l m j
 
-end_put : (b : Bool) (ts : List Step) (k x l m : ℕ) → m < length ts → Ended b ts (put_end b k x l m ts) k x l m (past_end b m)
+end_put : (b : Bool) (ts : List Step) (k x l m : ℕ) → m < length ts → Ended b ts (by_end b k x l m ts) k x l m (past b m)
 end_put true ts k x l m lt =
     record {
       below = λ y f g. other ts m (Close k x l) y (omega arith);
@@ -160,7 +187,7 @@ end_put false ts k x l m lt = record { below = λ y f g. refl; above = λ y f. r
 -- a loop: its block is converted, and then its own steps are written
 loop_put : (cov : ℕ → Bool) (k d : ℕ) (ts us : List Step) (at m l x n : ℕ) (p : Block) → at + 2 * lines_in (Loop l x n p) ≤ length ts →
     Converted cov p (level_in (loop_covered cov k x) k) (loops_in (loop_covered cov k x) d) ts us (at + 2) m →
-    ConvertedOne cov (Loop l x n p) k d ts (put_loop (loop_covered cov k x) (level_in (loop_covered cov k x) k) d x n l at m us) at (past_end (loop_covered cov k x) (m + 1))
+    ConvertedOne cov (Loop l x n p) k d ts (by_loop (loop_covered cov k x) (level_in (loop_covered cov k x) k) d x n l at m us) at (past (loop_covered cov k x) (m + 1))
 loop_put cov k d ts us at m l x n p room d₁ =
     let b = loop_covered cov k x in
     let own = level_in b k in
@@ -170,8 +197,8 @@ loop_put cov k d ts us at m l x n p room d₁ =
     let v₁ = set us at s₁ in
     let v₂ = set v₁ (at + 1) s₂ in
     let v₃ = set v₂ m s₃ in
-    let zs = put_end b own x l (m + 1) v₃ in
-    let r = past_end b (m + 1) in
+    let zs = by_end b own x l (m + 1) v₃ in
+    let r = past b (m + 1) in
     let w₁ = d₁.written in
     let a₁ = w₁.least in
     let b₁ = w₁.most in
@@ -212,12 +239,12 @@ loop_put cov k d ts us at m l x n p room d₁ =
 pub whole_loop : (cov : ℕ → Bool) (k d : ℕ) (ts us zs : List Step) (at m r l x n : ℕ) (p : Block) (b : Bool) (own loops : ℕ) → at + 2 * lines_in (Loop l x n p) ≤ length ts →
     b ≡ loop_covered cov k x → own ≡ level_in b k → loops ≡ loops_in b d →
     Converted cov p own loops ts us (at + 2) m →
-    zs ≡ put_loop b own d x n l at m us → r ≡ past_end b (m + 1) → ConvertedOne cov (Loop l x n p) k d ts zs at r
+    zs ≡ put_loop (form_of b own d) x n l at m us → r ≡ past_end (form_of b own d) (m + 1) → ConvertedOne cov (Loop l x n p) k d ts zs at r
 whole_loop cov k d ts us zs at m r l x n p b own loops room eb eo ed c₁ ez er =
     let b' = loop_covered cov k x in
     let eo' : own ≡ level_in b' k = eo ∙ ap (λ y. level_in y k) eb in
     let d₁ = within cov p own _ loops _ ts us (at + 2) m eo' (ed ∙ ap (λ y. loops_in y d) eb) c₁ in
-    let put = ez ∙ ap (λ y. put_loop y own d x n l at m us) eb ∙ ap (λ y. put_loop b' y d x n l at m us) eo' in
-    let past = er ∙ ap (λ y. past_end y (m + 1)) eb in
-    subst (λ y. ConvertedOne cov (Loop l x n p) k d ts zs at y) (sym past)
-    (subst (λ y. ConvertedOne cov (Loop l x n p) k d ts y at (past_end b' (m + 1))) (sym put) (loop_put cov k d ts us at m l x n p room d₁))
+    let put = ez ∙ puts_loop b own d x n l at m us ∙ ap (λ y. by_loop y own d x n l at m us) eb ∙ ap (λ y. by_loop b' y d x n l at m us) eo' in
+    let end = er ∙ puts_past b own d (m + 1) ∙ ap (λ y. past y (m + 1)) eb in
+    subst (λ y. ConvertedOne cov (Loop l x n p) k d ts zs at y) (sym end)
+    (subst (λ y. ConvertedOne cov (Loop l x n p) k d ts y at (past b' (m + 1))) (sym put) (loop_put cov k d ts us at m l x n p room d₁))

@@ -6,7 +6,7 @@ ghost use Rattle.onepath.specs.Cover.{covered_in};
 ghost use Rattle.onepath.specs.Listed.{steps_of};
 ghost use Rattle.onepath.specs.Holds.{Converted, ConvertedOne};
 
-use crate::constructs::{Around, IfSteps, LoopSteps, is_cell_covered, is_loop_covered};
+use crate::constructs::{Around, Form, is_cell_covered, is_loop_covered};
 use crate::steps::Step;
 use sheet::{Block, Construct};
 
@@ -73,12 +73,8 @@ fn convert_construct(
             let inner = around.in_if(is_covered);
             let mid = convert_block(first, covered, inner, steps, at + 1);
             let next = convert_block(second, covered, inner, steps, mid + 1);
-            let own = IfSteps {
-                is_covered,
-                level: inner.level,
-                cell,
-            };
-            own.put(steps, at, mid, next);
+            let form = Form::of(is_covered, inner.level, around.loops);
+            form.put_if(cell, steps, at, mid, next);
             next
         }
         Construct::Loop {
@@ -90,15 +86,8 @@ fn convert_construct(
             let is_covered = is_loop_covered(covered, level, cell);
             let inner = around.in_loop(is_covered);
             let mid = convert_block(body, covered, inner, steps, at + 2);
-            let own = LoopSteps {
-                is_covered,
-                level: inner.level,
-                counter: around.loops,
-                cell,
-                bound,
-                line,
-            };
-            own.put(steps, at, mid)
+            let form = Form::of(is_covered, inner.level, around.loops);
+            form.put_loop(cell, bound, line, steps, at, mid)
         }
     }
 }

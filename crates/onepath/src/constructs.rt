@@ -2,7 +2,7 @@
 // its blocks.
 ghost use Rattle.std.specs.Prelude.{◌≡◌, ◌+◌, ◌^◌, ◌<◌, ◌≤◌, length};
 ghost use Rattle.onepath.specs.Cover.{covered_in, loop_covered, level_in, loops_in};
-ghost use Rattle.onepath.specs.Put.{put_if, put_loop, past_end};
+ghost use Rattle.onepath.specs.Put.{form_of, put_if, put_loop, past_end};
 
 use crate::steps::Step;
 
@@ -53,8 +53,7 @@ impl Around {
 pub(crate) fn is_cell_covered(covered: &[bool], cell: u8) -> bool
     ensures { result ≡ covered_in covered.now cell }
 {
-    let place = usize::from(cell);
-    place < covered.len() && covered[place]
+    covered.get(usize::from(cell)).copied().unwrap_or(false)
 }
 
 // Whether a loop is covered: by its cell, or by a covered construct around it.
@@ -64,84 +63,82 @@ pub(crate) fn is_loop_covered(covered: &[bool], level: usize, cell: u8) -> bool
     level > 0 || is_cell_covered(covered, cell)
 }
 
-// What an if's own steps say. `level` is a covered if's own.
+// How a construct is converted: covered, at a level of its own, or open. An open loop has a counter.
 #[derive(Clone, Copy)]
-pub(crate) struct IfSteps {
-    pub(crate) is_covered: bool,
-    pub(crate) level: usize,
-    pub(crate) cell: u8,
+pub(crate) enum Form {
+    Covered { level: usize },
+    Open { counter: usize },
 }
 
-impl IfSteps {
-    // Writes them before and between the steps of the if's blocks, at `at` and at `mid`. `next` is the place after
-    // the second block.
-    pub(crate) fn put(self, steps: &mut [Step], at: usize, mid: usize, next: usize)
-        requires { (at < mid) × (mid < length steps.old) }
-        ensures { steps.new ≡ put_if self.is_covered self.level self.cell at mid next steps.old }
+impl Form {
+    // The form of a construct that is covered or not, with the level of its blocks and the counter that is free.
+    pub(crate) fn of(is_covered: bool, level: usize, counter: usize) -> Form
+        ensures { result ≡ form_of is_covered level counter }
     {
-        let IfSteps {
-            is_covered,
-            level,
-            cell,
-        } = self;
         if is_covered {
-            steps[at] = Step::Ask { level, cell };
-            steps[mid] = Step::Turn { level };
+            Form::Covered { level }
         } else {
-            steps[at] = Step::Branch { cell, to: mid + 1 };
-            steps[mid] = Step::Jump { to: next };
+            Form::Open { counter }
         }
     }
-}
 
-// What a loop's own steps say. `level` is a covered loop's own, `counter` an open loop's, `line` the loop's line.
-#[derive(Clone, Copy)]
-pub(crate) struct LoopSteps {
-    pub(crate) is_covered: bool,
-    pub(crate) level: usize,
-    pub(crate) counter: usize,
-    pub(crate) cell: u8,
-    pub(crate) bound: u8,
-    pub(crate) line: usize,
-}
-
-impl LoopSteps {
-    // Writes them before and after the steps of the loop's block, from `at` and from `mid` on. Returns the place
-    // after the loop.
-    pub(crate) fn put(self, steps: &mut [Step], at: usize, mid: usize) -> usize
-        requires { (at + 1 < mid) × (mid + 1 < length steps.old) }
-        ensures steps { steps.new ≡ put_loop self.is_covered self.level self.counter self.cell self.bound self.line at mid steps.old }
-        ensures next { result ≡ past_end self.is_covered (mid + 1) }
+    // Writes an if's own steps before and between the steps of its blocks, at `at` and at `mid`. `next` is the place
+    // after the second block.
+    pub(crate) fn put_if(self, cell: u8, steps: &mut [Step], at: usize, mid: usize, next: usize)
+        requires { (at < mid) × (mid < length steps.old) }
+        ensures { steps.new ≡ put_if self cell at mid next steps.old }
     {
-        let LoopSteps {
-            is_covered,
-            level,
-            counter,
-            cell,
-            bound,
-            line,
-        } = self;
-        if is_covered {
-            steps[at] = Step::Setout { level };
-            steps[at + 1] = Step::Narrow { level, cell };
-            steps[mid] = Step::Again {
-                level,
-                bound,
-                to: at + 1,
-            };
-            steps[mid + 1] = Step::Close { level, cell, line };
-            mid + 2
-        } else {
-            steps[at] = Step::Enter { counter };
-            steps[at + 1] = Step::Test {
-                counter,
-                cell,
-                bound,
-                to: mid + 1,
-                line,
-            };
-            steps[mid] = Step::Jump { to: at + 1 };
-            mid + 1
+        match self {
+            Form::Covered { level } => {
+                steps[at] = Step::Ask { level, cell };
+                steps[mid] = Step::Turn { level };
+            }
+            Form::Open { .. } => {
+                steps[at] = Step::Branch { cell, to: mid + 1 };
+                steps[mid] = Step::Jump { to: next };
+            }
+        }
+    }
+
+    // Writes the own steps of the loop of this line before and after the steps of its block, from `at` and from `mid`
+    // on. Returns the place after the loop.
+    pub(crate) fn put_loop(
+        self,
+        cell: u8,
+        bound: u8,
+        line: usize,
+        steps: &mut [Step],
+        at: usize,
+        mid: usize,
+    ) -> usize
+        requires { (at + 1 < mid) × (mid + 1 < length steps.old) }
+        ensures steps { steps.new ≡ put_loop self cell bound line at mid steps.old }
+        ensures next { result ≡ past_end self (mid + 1) }
+    {
+        match self {
+            Form::Covered { level } => {
+                steps[at] = Step::Setout { level };
+                steps[at + 1] = Step::Narrow { level, cell };
+                steps[mid] = Step::Again {
+                    level,
+                    bound,
+                    to: at + 1,
+                };
+                steps[mid + 1] = Step::Close { level, cell, line };
+                mid + 2
+            }
+            Form::Open { counter } => {
+                steps[at] = Step::Enter { counter };
+                steps[at + 1] = Step::Test {
+                    counter,
+                    cell,
+                    bound,
+                    to: mid + 1,
+                    line,
+                };
+                steps[mid] = Step::Jump { to: at + 1 };
+                mid + 1
+            }
         }
     }
 }

@@ -1,7 +1,8 @@
-use Rattle.std.proofs.Common.{◌+◌, ◌*◌, ◌≤◌, length, sym, ◌∙◌, subst, arith}
+use Rattle.std.proofs.Common.{◌+◌, ap, ◌*◌, ◌≤◌, length, sym, ◌∙◌, subst, arith}
 use Rattle.sheet.specs.Blocks.{Heads, lines_in}
 use Rattle.sheet.specs.declared.block.Construct.TheVariants.{If, Loop}
 use Rattle.onepath.specs.Cover.{covered_in}
+use Rattle.onepath.specs.Put.{put_if, put_loop, past_end}
 use Rattle.onepath.specs.Holds.{ConvertedOne}
 use Rattle.onepath.proofs.Parts.{lies_lines}
 use Rattle.onepath.proofs.Arms.{none, joined, whole_if, whole_loop}
@@ -35,9 +36,10 @@ convert_construct-returns-in-If t c =
     let i = c.in_if-inner.ensures in
     let x = If c.in-If.cell c.in-If.first c.in-If.second in
     let room : c.args.at + 2 * lines_in x ≤ length c.args.steps.now = subst (λ y. c.args.at + 2 * lines_in y ≤ length c.args.steps.now) c.in-If.is c.requires.room in
-    subst (λ y. ConvertedOne cov y k d c.args.steps.now c.put.new.steps c.args.at c.convert_block-next.result) (sym c.in-If.is)
+    subst (λ y. ConvertedOne cov y k d c.args.steps.now c.put_if.new.steps c.args.at c.convert_block-next.result) (sym c.in-If.is)
     (whole_if cov k d c.args.steps.now _ _ _ c.args.at c.convert_block-mid.result _ c.in-If.cell c.in-If.first c.in-If.second c.is_cell_covered-is_covered.result _ _ room
-    c.is_cell_covered-is_covered.ensures i.level i.loops c.convert_block-mid.ensures c.convert_block-next.ensures c.put.ensures)
+    c.is_cell_covered-is_covered.ensures i.level i.loops c.convert_block-mid.ensures c.convert_block-next.ensures
+    (c.put_if.ensures ∙ ap (λ y. put_if y c.in-If.cell c.args.at c.convert_block-mid.result c.convert_block-next.result c.convert_block-next.new.steps) c.of-form.ensures))
 
 pub convert_construct-returns-in-Loop : goal.convert_construct-returns-in-Loop
 convert_construct-returns-in-Loop t c =
@@ -47,6 +49,8 @@ convert_construct-returns-in-Loop t c =
     let i = c.in_loop-inner.ensures in
     let x = Loop c.in-Loop.line c.in-Loop.cell c.in-Loop.bound c.in-Loop.body in
     let room : c.args.at + 2 * lines_in x ≤ length c.args.steps.now = subst (λ y. c.args.at + 2 * lines_in y ≤ length c.args.steps.now) c.in-Loop.is c.requires.room in
-    subst (λ y. ConvertedOne cov y k d c.args.steps.now c.put-in-Loop.new.steps c.args.at c.put-in-Loop.result) (sym c.in-Loop.is)
+    subst (λ y. ConvertedOne cov y k d c.args.steps.now c.put_loop.new.steps c.args.at c.put_loop.result) (sym c.in-Loop.is)
     (whole_loop cov k d c.args.steps.now _ _ c.args.at c.convert_block-mid-in-Loop.result _ c.in-Loop.line c.in-Loop.cell c.in-Loop.bound c.in-Loop.body c.is_loop_covered-is_covered.result _ _ room
-    c.is_loop_covered-is_covered.ensures i.level i.loops c.convert_block-mid-in-Loop.ensures c.put-in-Loop.ensures.steps c.put-in-Loop.ensures.next)
+    c.is_loop_covered-is_covered.ensures i.level i.loops c.convert_block-mid-in-Loop.ensures
+    (c.put_loop.ensures.steps ∙ ap (λ y. put_loop y c.in-Loop.cell c.in-Loop.bound c.in-Loop.line c.args.at c.convert_block-mid-in-Loop.result c.convert_block-mid-in-Loop.new.steps) c.of-form-in-Loop.ensures)
+    (c.put_loop.ensures.next ∙ ap (λ y. past_end y (c.convert_block-mid-in-Loop.result + 1)) c.of-form-in-Loop.ensures))
