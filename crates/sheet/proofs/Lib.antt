@@ -1,8 +1,6 @@
 pub mod Stands
 pub mod Heads
 pub mod Listed
-pub mod Stacks
-pub mod Moving
 pub mod Stepping
 pub mod Bytes
 pub mod Sound

@@ -1,7 +1,7 @@
 // The checks of a sheet's bytes, in the order of the refusals.
 ghost use Rattle.std.specs.Prelude.{◌≡◌, ℕ, ◌+◌, ◌*◌, ◌<◌, ◌≤◌, ◌&&◌, [], length, Ok, Err, nat_le, nat_lt, slice_index};
 ghost use Rattle.sheet.specs.Checks.{word_at, header_of, limit_fault, offset_fault, marks_fault, rules_of, obeys, bytes_fault, line_says, lines_fault};
-ghost use Rattle.sheet.specs.Nests.{opens, Held};
+ghost use Rattle.sheet.specs.Nests.{opens};
 ghost use Rattle.sheet.specs.Results.{found, Bytes};
 
 use crate::faults::ReadFault;
@@ -177,19 +177,13 @@ fn check_bytes(bytes: &[u8], at: usize, cells: usize) -> Result<(), ReadFault>
     Ok(())
 }
 
-// The line at `at` is one that may stand where `nest` is open, which goes past it.
-fn check_line(bytes: &[u8], at: usize, cells: usize, nest: &mut Nest) -> Result<(), ReadFault>
-    requires whole { at + 8 ≤ length bytes.now }
-    requires held { Held nest.old }
-    ensures held { Held nest.new }
-    ensures says { line_says cells bytes.now at (opens nest.old) ≡ elim result [ Ok _ ↦ Ok (opens nest.new) | Err f ↦ Err f ] }
+// What is open after the line at `at`, where it may stand inside of what is open before it.
+fn check_line(bytes: &[u8], at: usize, cells: usize, nest: Nest) -> Result<Nest, ReadFault>
+    requires { at + 8 ≤ length bytes.now }
+    ensures { line_says cells bytes.now at (opens nest) ≡ elim result [ Ok next ↦ Ok (opens next) | Err f ↦ Err f ] }
 {
     check_bytes(bytes, at, cells)?;
-    if nest.pass(bytes[at]) {
-        Ok(())
-    } else {
-        Err(ReadFault::Nesting { at })
-    }
+    nest.past(bytes[at]).ok_or(ReadFault::Nesting { at })
 }
 
 // Line after line, and nothing is open at the end.
@@ -200,7 +194,7 @@ pub(crate) fn check_lines(bytes: &[u8], h: Header) -> Result<(), ReadFault>
     let mut nest = Nest::new();
     let mut at = 14 + h.marked;
     for _ in 0..h.lines {
-        check_line(bytes, at, h.cells, &mut nest)?;
+        nest = check_line(bytes, at, h.cells, nest)?;
         at += 8;
     }
     if nest.is_empty() {

@@ -7,7 +7,6 @@ mod filling;
 mod headers;
 mod laws;
 mod lines;
-mod moves;
 mod nesting;
 mod reading;
 mod rules;
