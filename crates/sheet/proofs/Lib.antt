@@ -2,6 +2,7 @@ pub mod Stands
 pub mod Heads
 pub mod Listed
 pub mod Stepping
+pub mod Chunks
 pub mod Bytes
 pub mod Sound
 pub mod Complete

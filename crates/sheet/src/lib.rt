@@ -5,9 +5,11 @@ mod checking;
 mod faults;
 mod filling;
 mod headers;
+mod kinds;
 mod laws;
 mod lines;
 mod nesting;
+mod parts;
 mod reading;
 mod rules;
 

@@ -1,4 +1,5 @@
 // What is open at a line, and how lines open and close constructs.
+use crate::kinds::LineKind;
 use arrayvec::ArrayVec;
 
 // An `if` before its `else`, an `if` after it, or a loop.
@@ -70,15 +71,15 @@ impl Nest {
     }
 
     // Goes past a line of this kind, where it may stand there.
-    pub(crate) fn past(self, kind: u8) -> Option<Nest>
+    pub(crate) fn past(self, kind: LineKind) -> Option<Nest>
         ensures { option_map opens result ≡ nested kind (opens self) }
     {
         match kind {
-            3 => self.opened(Open::First),
-            4 => self.turned(),
-            5 => self.closed(),
-            6 => self.opened(Open::Body),
-            _ => Some(self),
+            LineKind::Work | LineKind::Literal => Some(self),
+            LineKind::If => self.opened(Open::First),
+            LineKind::Else => self.turned(),
+            LineKind::End => self.closed(),
+            LineKind::Loop => self.opened(Open::Body),
         }
     }
 }
