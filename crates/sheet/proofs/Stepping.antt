@@ -1,5 +1,5 @@
 -- One step of each of the checks that go over a part of the sheet.
-use Rattle.std.proofs.Common.{◌≡◌, ℕ, suc, ◌+◌, ◌-◌, ◌<◌, Bool, true, false, cond, not, ◌&&◌, ltb, leb, List, [], ◌∷◌, length, get_or, take, drop, Some, None, Ok, Err, ok_or, Option, Result, option_map, position, zip, sym, refl, ap, ◌∙◌, arith}
+use Rattle.std.proofs.Common.{◌≡◌, ℕ, suc, ◌+◌, ◌<◌, Bool, true, false, cond, not, ◌&&◌, ltb, leb, List, [], ◌∷◌, length, get_or, take, drop, Some, None, Ok, Err, ok_or, Option, Result, option_map, position, zip, sym, refl, ap, ◌∙◌, arith}
 use Rattle.std.proofs.lemmas.Bool.{and_parts}
 use Rattle.std.proofs.lemmas.List.{length-take, length-drop, get_or-take, get_or-drop}
 use Rattle.std.proofs.lemmas.Iterator.Adapters.{position_from-zero}
@@ -43,19 +43,20 @@ pub byte_of_kind : (b : ℕ) (kind : LineKind) → kind_of b ≡ Some kind → b
 byte_of_kind b kind h = grind arith
 
 module _ (cells : ℕ) (bs : List ℕ) (at : ℕ) where
-  -- marks: those from `at` up to `end` are left
-  module _ (low end : ℕ) (more : at < end) where
-    one_more : end - at ≡ suc (end - (at + 1))
-    one_more = omega arith
+  -- marks: m are left, the one at `at` and n more
+  module _ (low mark m n : ℕ) (more : m ≡ suc n) (is : mark ≡ byte_at bs at) where
+    read : marks_fault cells bs low at m ≡ unless (leb low mark) (Mark at) (unless (ltb mark cells) (Mark at) (marks_fault cells bs (mark + 1) (at + 1) n))
+    read =
+        ap (marks_fault cells bs low at) more
+        ∙ ap (λ y. unless (leb low y) (Mark at) (unless (ltb y cells) (Mark at) (marks_fault cells bs (y + 1) (at + 1) n))) (sym is)
 
-    pub mark_next : (leb low (byte_at bs at) && ltb (byte_at bs at) cells) ≡ true →
-        marks_fault cells bs low at (end - at) ≡ marks_fault cells bs (byte_at bs at + 1) (at + 1) (end - (at + 1))
-    mark_next h =
-        let b = and_parts (leb low (byte_at bs at)) (ltb (byte_at bs at) cells) h in
-        ap (marks_fault cells bs low at) one_more ∙ passed _ _ _ b.0 ∙ passed _ _ _ b.1
+    pub mark_next : (low' at' : ℕ) → low' ≡ mark + 1 → at' ≡ at + 1 → (leb low mark && ltb mark cells) ≡ true → marks_fault cells bs low' at' n ≡ marks_fault cells bs low at m
+    mark_next low' at' l e h =
+        let b = and_parts (leb low mark) (ltb mark cells) h in
+        ap (λ y. marks_fault cells bs y at' n) l ∙ ap (λ y. marks_fault cells bs (mark + 1) y n) e ∙ sym (read ∙ passed _ _ _ b.0 ∙ passed _ _ _ b.1)
 
-    pub mark_bad : (leb low (byte_at bs at) && ltb (byte_at bs at) cells) ≡ false → marks_fault cells bs low at (end - at) ≡ Some (Mark at)
-    mark_bad h = ap (marks_fault cells bs low at) one_more ∙ either (leb low (byte_at bs at)) (ltb (byte_at bs at) cells) _ h
+    pub mark_bad : (leb low mark && ltb mark cells) ≡ false → marks_fault cells bs low at m ≡ Some (Mark at)
+    mark_bad h = read ∙ either (leb low mark) (ltb mark cells) _ h
       where
         either : (s t : Bool) (rest : Option ReadFault) → (s && t) ≡ false → unless s (Mark at) (unless t (Mark at) rest) ≡ Some (Mark at)
         either true t rest g = failed t (Mark at) rest g

@@ -18,7 +18,7 @@ fn word(bytes: &[u8], at: usize) -> usize
     ensures value { result ≡ word_at bytes.now at }
     ensures bytes { Bytes bytes.now }
 {
-    usize::from(bytes[at]) + 256 * usize::from(bytes[at + 1])
+    usize::from(u16::from_le_bytes([bytes[at], bytes[at + 1]]))
 }
 
 pub(crate) fn header(bytes: &[u8]) -> Header
@@ -111,10 +111,9 @@ pub(crate) fn check_marks(bytes: &[u8], h: Header) -> Result<(), ReadFault>
     ensures { found result ≡ marks_fault h.cells bytes.now 0 14 h.marked }
 {
     let mut low = 0;
-    for at in 14..14 + h.marked {
-        let mark = bytes[at];
+    for (i, &mark) in bytes[14..14 + h.marked].iter().enumerate() {
         if !may_follow(mark, low, h.cells) {
-            return Err(ReadFault::Mark { at });
+            return Err(ReadFault::Mark { at: 14 + i });
         }
         low = usize::from(mark) + 1;
     }

@@ -10,10 +10,7 @@ fn number(bytes: &[u8], at: usize) -> u32
     requires { at + 3 < length bytes.now }
     ensures { result ≡ slice_index bytes.now at + 256 * slice_index bytes.now (at + 1) + 65536 * slice_index bytes.now (at + 2) + 16777216 * slice_index bytes.now (at + 3) }
 {
-    u32::from(bytes[at])
-        + 256 * u32::from(bytes[at + 1])
-        + 65536 * u32::from(bytes[at + 2])
-        + 16777216 * u32::from(bytes[at + 3])
+    u32::from_le_bytes([bytes[at], bytes[at + 1], bytes[at + 2], bytes[at + 3]])
 }
 
 // Fills in the block that begins at line `from`, of `count` lines whose bytes begin at `base`; answers the line
