@@ -11,6 +11,7 @@ use crate::faults::ReadFault;
 use crate::filling::fill_block;
 use crate::headers::{Header, Sheet};
 use crate::lines::Line;
+use crate::parts::line_bytes;
 
 // Every check of a sheet, in order.
 fn checked(bytes: &[u8]) -> Result<Header, ReadFault>
@@ -60,7 +61,7 @@ fn fill(bytes: &[u8], sheet: Sheet<'_>, table: &mut [Line])
     requires { Fits bytes.now (length table.old) (Ok sheet) }
     ensures { (p : Program) → Laid bytes.now p → Filled p table.old table.new }
 {
-    fill_block(bytes, 14 + sheet.marks.len(), sheet.lines, 0, table);
+    fill_block(line_bytes(bytes, 14 + sheet.marks.len()), 0, table);
 }
 
 // Reads a sheet into the line table, which begins with its lines then, or answers the first fault.
