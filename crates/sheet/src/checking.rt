@@ -3,7 +3,7 @@ ghost use Rattle.std.specs.Prelude.{◌≡◌, ℕ, ◌+◌, ◌*◌, ◌^◌, �
 ghost use Rattle.sheet.specs.Checks.{word_at, header_of, limit_fault, offset_fault, marks_fault, rules_of, obeys, bytes_fault, line_says, lines_fault};
 ghost use Rattle.sheet.specs.Parts.{IsLineAt};
 ghost use Rattle.sheet.specs.Nests.{opens};
-ghost use Rattle.sheet.specs.Results.{found, Bytes};
+ghost use Rattle.sheet.specs.Results.{found};
 
 use crate::faults::ReadFault;
 use crate::headers::Header;
@@ -15,16 +15,14 @@ use crate::rules::Rule;
 // The number that two bytes spell, the lower first.
 fn word(bytes: &[u8], at: usize) -> usize
     requires { at + 1 < length bytes.now }
-    ensures value { result ≡ word_at bytes.now at }
-    ensures bytes { Bytes bytes.now }
+    ensures { result ≡ word_at bytes.now at }
 {
     usize::from(u16::from_le_bytes([bytes[at], bytes[at + 1]]))
 }
 
 pub(crate) fn header(bytes: &[u8]) -> Header
     requires { 14 ≤ length bytes.now }
-    ensures value { result ≡ header_of bytes.now }
-    ensures bytes { Bytes bytes.now }
+    ensures { result ≡ header_of bytes.now }
 {
     Header {
         cells: word(bytes, 0),

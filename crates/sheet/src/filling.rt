@@ -22,6 +22,7 @@ pub(crate) fn fill_block(lines: &[[u8; 8]], from: usize, table: &mut [Line]) -> 
     requires room { length lines.now ≤ length table.old }
     ensures { FilledFrom lines.now from table.old table.new result }
 {
+    // A construct takes as many lines as its blocks do, so what fills it in answers where to go on.
     let mut i = from;
     while i < lines.len() {
         let line = lines[i];

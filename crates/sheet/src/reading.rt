@@ -4,7 +4,7 @@ ghost use Rattle.sheet.specs.Checks.{header_of, sheet_fault, read_fault};
 ghost use Rattle.sheet.specs.Layout.{Program};
 ghost use Rattle.sheet.specs.Reading.{Laid, Taken, Fits, Filled, Reads};
 ghost use Rattle.sheet.specs.Refusals.{place_of};
-ghost use Rattle.sheet.specs.Results.{found, Bytes};
+ghost use Rattle.sheet.specs.Results.{found};
 
 use crate::checking::{check_limits, check_lines, check_marks, check_offsets, header};
 use crate::faults::ReadFault;
@@ -16,7 +16,7 @@ use crate::parts::line_bytes;
 // Every check of a sheet, in order.
 fn checked(bytes: &[u8]) -> Result<Header, ReadFault>
     ensures first { found result ≡ sheet_fault bytes.now }
-    ensures whole { IfOk result (λ h. (h ≡ header_of bytes.now) × Bytes bytes.now) }
+    ensures whole { IfOk result (λ h. h ≡ header_of bytes.now) }
 {
     if bytes.len() < 14 {
         return Err(ReadFault::Short);
