@@ -118,7 +118,7 @@ pub(crate) fn check_marks(bytes: &[u8], h: Header) -> Result<(), ReadFault>
     Ok(())
 }
 
-// Which byte after the first is one that a line of this kind may not have, if there is one.
+// Which of the bytes is the first that its rule does not allow, if there is one.
 fn misfit(rules: [Rule; 7], bytes: &[u8], cells: usize) -> Option<usize>
     ensures { result ≡ position (λ p. not (obeys cells p.0 p.1)) (zip rules bytes.now) }
 {
