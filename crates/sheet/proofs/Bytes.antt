@@ -1,12 +1,15 @@
 -- The bytes of one line: what the rules of its kind say of them.
-use Rattle.std.proofs.Common.{◌≡◌, ℕ, ◌+◌, ◌*◌, ◌^◌, ◌<◌, ◌≤◌, Bool, true, false, cond, eqb, leb, List, [], ◌∷◌, Some, None, Option, refl, ap, ◌∙◌, arith}
-use Rattle.std.proofs.lemmas.Bool.{and_parts, eqb-true, eqb-false, ltb-true, leb-true}
+use Rattle.std.proofs.Common.{◌≡◌, ℕ, ◌+◌, ◌*◌, ◌^◌, ◌<◌, ◌≤◌, Bool, true, false, List, [], ◌∷◌, Some, None, Option, refl, ap, ◌∙◌, arith}
+use Rattle.std.proofs.lemmas.Bool.{eqb-true, ltb-true, leb-true}
 use Rattle.sheet.specs.Layout.{work_bytes, literal_bytes, other_bytes}
+use Rattle.sheet.specs.Kinds.{byte_of}
 use Rattle.sheet.specs.Checks.{byte_at, unless, or_else, rules_of, obeys, bytes_fault}
 use Rattle.sheet.specs.Results.{Bytes}
 use Rattle.sheet.specs.declared.faults.ReadFault.{ReadFault}
+use Rattle.sheet.specs.declared.kinds.LineKind.{LineKind}
+use Rattle.sheet.specs.declared.kinds.LineKind.TheVariants.{Work, Literal, If, Else, End, Loop}
 use Rattle.sheet.specs.declared.rules.Rule.{Rule}
-use Rattle.sheet.specs.declared.rules.Rule.TheVariants.{Kind, Cell, Operation, Bound, Any, Zero}
+use Rattle.sheet.specs.declared.rules.Rule.TheVariants.{Cell, Operation, Bound, Any, Zero}
 use Rattle.sheet.proofs.Stands.{Stands}
 use Rattle.sheet.proofs.Stepping.{passed}
 
@@ -33,7 +36,6 @@ Obey cells (r ∷ rs) (u ∷ us) = (obeys cells r u ≡ true) × Obey cells rs u
 
 -- what it means that a byte obeys its rule
 abbrev pub Meant : ℕ → Rule → ℕ → Type 0
-Meant cells Kind b = (1 ≤ b) × (b ≤ 6)
 Meant cells Cell b = b < cells
 Meant cells Operation b = b ≤ 7
 Meant cells Bound b = 1 ≤ b
@@ -41,7 +43,6 @@ Meant cells Any b = Unit {0}
 Meant cells Zero b = b ≡ 0
 
 means : (cells : ℕ) (r : Rule) (b : ℕ) → obeys cells r b ≡ true → Meant cells r b
-means cells Kind b h = let p = and_parts (leb 1 b) (leb b 6) h in (leb-true 1 b p.0, leb-true b 6 p.1)
 means cells Cell b h = ltb-true b cells h
 means cells Operation b h = leb-true b 7 h
 means cells Bound b h = leb-true 1 b h
@@ -64,69 +65,32 @@ module _ (cells : ℕ) (bs : List ℕ) where
   obeyed at (r ∷ rs) h = let u = unless_none _ _ _ h in (means cells r (byte_at bs at) u.0, obeyed (at + 1) rs u.1)
 
   -- a line whose bytes have no fault is a line of the layout
-  pub data LineIs (at : ℕ) : Type 0 where
-    is_work : (t o a b : ℕ) → t < cells → o ≤ 7 → a < cells → b < cells → byte_at bs at ≡ 1 → Here bs at (work_bytes t o a b) → LineIs at
-    is_literal : (t n : ℕ) → t < cells → n < 2 ^ 32 → byte_at bs at ≡ 2 → Here bs at (literal_bytes t n) → LineIs at
-    is_if : (c : ℕ) → c < cells → byte_at bs at ≡ 3 → Here bs at (other_bytes 3 c 0) → LineIs at
-    is_else : byte_at bs at ≡ 4 → Here bs at (other_bytes 4 0 0) → LineIs at
-    is_end : byte_at bs at ≡ 5 → Here bs at (other_bytes 5 0 0) → LineIs at
-    is_loop : (c n : ℕ) → c < cells → 1 ≤ n → n ≤ 255 → byte_at bs at ≡ 6 → Here bs at (other_bytes 6 c n) → LineIs at
+  pub data LineIs (at : ℕ) (kind : LineKind) : Type 0 where
+    is_work : (t o a b : ℕ) → t < cells → o ≤ 7 → a < cells → b < cells → kind ≡ Work → Here bs at (work_bytes t o a b) → LineIs at kind
+    is_literal : (t n : ℕ) → t < cells → n < 2 ^ 32 → kind ≡ Literal → Here bs at (literal_bytes t n) → LineIs at kind
+    is_if : (c : ℕ) → c < cells → kind ≡ If → Here bs at (other_bytes 3 c 0) → LineIs at kind
+    is_else : kind ≡ Else → Here bs at (other_bytes 4 0 0) → LineIs at kind
+    is_end : kind ≡ End → Here bs at (other_bytes 5 0 0) → LineIs at kind
+    is_loop : (c n : ℕ) → c < cells → 1 ≤ n → n ≤ 255 → kind ≡ Loop → Here bs at (other_bytes 6 c n) → LineIs at kind
 
   module _ (at : ℕ) (bytes : Bytes bs) where
-    line_work : byte_at bs at ≡ 1 → bytes_fault cells bs at (rules_of 1) ≡ None → LineIs at
-    line_work e h =
-        let u = (obeyed at (rules_of 1) h).1 in
-        is_work _ _ _ _ u.0 u.1.0 u.1.1.0 u.1.1.1.0 e (e, (refl, (refl, (refl, (refl, u.1.1.1.1)))))
-
-    line_literal : byte_at bs at ≡ 2 → bytes_fault cells bs at (rules_of 2) ≡ None → LineIs at
-    line_literal e h =
-        let u = (obeyed at (rules_of 2) h).1 in
+    pub line_is : (kind : LineKind) → byte_at bs at ≡ byte_of kind → bytes_fault cells bs (at + 1) (rules_of kind) ≡ None → LineIs at kind
+    line_is Work e h =
+        let u = obeyed (at + 1) (rules_of Work) h in
+        is_work _ _ _ _ u.0 u.1.0 u.1.1.0 u.1.1.1.0 refl (e, (refl, (refl, (refl, (refl, u.1.1.1.1)))))
+    line_is Literal e h =
+        let u = obeyed (at + 1) (rules_of Literal) h in
         let p = at + 1 + 1 + 1 + 1 in
         let l₀ = bytes p in
         let l₁ = bytes (p + 1) in
         let l₂ = bytes (p + 1 + 1) in
         let l₃ = bytes (p + 1 + 1 + 1) in
-        is_literal _ (byte_at bs p + 256 * byte_at bs (p + 1) + 65536 * byte_at bs (p + 1 + 1) + 16777216 * byte_at bs (p + 1 + 1 + 1)) u.0 (omega arith) e
+        is_literal _ (byte_at bs p + 256 * byte_at bs (p + 1) + 65536 * byte_at bs (p + 1 + 1) + 16777216 * byte_at bs (p + 1 + 1 + 1)) u.0 (omega arith) refl
         (e, (refl, (u.1.0, (u.1.1.0, (omega arith, (omega arith, (omega arith, (omega arith, tt))))))))
-
-    line_if : byte_at bs at ≡ 3 → bytes_fault cells bs at (rules_of 3) ≡ None → LineIs at
-    line_if e h = let u = (obeyed at (rules_of 3) h).1 in is_if _ u.0 e (e, (refl, u.1))
-
-    line_loop : byte_at bs at ≡ 6 → bytes_fault cells bs at (rules_of 6) ≡ None → LineIs at
-    line_loop e h =
-        let u = (obeyed at (rules_of 6) h).1 in
+    line_is If e h = let u = obeyed (at + 1) (rules_of If) h in is_if _ u.0 refl (e, (refl, u.1))
+    line_is Else e h = is_else refl (e, obeyed (at + 1) (rules_of Else) h)
+    line_is End e h = is_end refl (e, obeyed (at + 1) (rules_of End) h)
+    line_is Loop e h =
+        let u = obeyed (at + 1) (rules_of Loop) h in
         let l = bytes (at + 1 + 1) in
-        is_loop _ _ u.0 u.1.0 (omega arith) e (e, (refl, (refl, u.1.1)))
-
-    plain : (kind : ℕ) → byte_at bs at ≡ kind → bytes_fault cells bs at (rules_of 4) ≡ None → Here bs at (other_bytes kind 0 0)
-    plain kind e h = (e, (obeyed at (rules_of 4) h).1)
-
-    pub line_is : bytes_fault cells bs at (rules_of (byte_at bs at)) ≡ None → LineIs at
-    line_is h = go₁ (eqb k 1) refl h
-      where
-        k : ℕ
-        k = byte_at bs at
-
-        go₅ : (t : Bool) → eqb (byte_at bs at) 4 ≡ t → (byte_at bs at ≡ 1 → ⊥) → (byte_at bs at ≡ 2 → ⊥) → (byte_at bs at ≡ 3 → ⊥) → (byte_at bs at ≡ 6 → ⊥) → bytes_fault cells bs at (rules_of 4) ≡ None → LineIs at
-        go₅ true e n₁ n₂ n₃ n₆ h = let is = eqb-true (byte_at bs at) 4 e in is_else is (plain 4 is h)
-        go₅ false e n₁ n₂ n₃ n₆ h =
-            let n₄ = eqb-false (byte_at bs at) 4 e in
-            let r = (obeyed at (rules_of 4) h).0 in
-            let is : byte_at bs at ≡ 5 = omega arith in
-            is_end is (plain 5 is h)
-
-        go₄ : (t : Bool) → eqb (byte_at bs at) 6 ≡ t → (byte_at bs at ≡ 1 → ⊥) → (byte_at bs at ≡ 2 → ⊥) → (byte_at bs at ≡ 3 → ⊥) → bytes_fault cells bs at (cond t (rules_of 6) (rules_of 4)) ≡ None → LineIs at
-        go₄ true e n₁ n₂ n₃ h = line_loop (eqb-true (byte_at bs at) 6 e) h
-        go₄ false e n₁ n₂ n₃ h = go₅ (eqb (byte_at bs at) 4) refl n₁ n₂ n₃ (eqb-false (byte_at bs at) 6 e) h
-
-        go₃ : (t : Bool) → eqb (byte_at bs at) 3 ≡ t → (byte_at bs at ≡ 1 → ⊥) → (byte_at bs at ≡ 2 → ⊥) → bytes_fault cells bs at (cond t (rules_of 3) (cond (eqb (byte_at bs at) 6) (rules_of 6) (rules_of 4))) ≡ None → LineIs at
-        go₃ true e n₁ n₂ h = line_if (eqb-true (byte_at bs at) 3 e) h
-        go₃ false e n₁ n₂ h = go₄ (eqb (byte_at bs at) 6) refl n₁ n₂ (eqb-false (byte_at bs at) 3 e) h
-
-        go₂ : (t : Bool) → eqb (byte_at bs at) 2 ≡ t → (byte_at bs at ≡ 1 → ⊥) → bytes_fault cells bs at (cond t (rules_of 2) (cond (eqb (byte_at bs at) 3) (rules_of 3) (cond (eqb (byte_at bs at) 6) (rules_of 6) (rules_of 4)))) ≡ None → LineIs at
-        go₂ true e n₁ h = line_literal (eqb-true (byte_at bs at) 2 e) h
-        go₂ false e n₁ h = go₃ (eqb (byte_at bs at) 3) refl n₁ (eqb-false (byte_at bs at) 2 e) h
-
-        go₁ : (t : Bool) → eqb (byte_at bs at) 1 ≡ t → bytes_fault cells bs at (cond t (rules_of 1) (cond (eqb (byte_at bs at) 2) (rules_of 2) (cond (eqb (byte_at bs at) 3) (rules_of 3) (cond (eqb (byte_at bs at) 6) (rules_of 6) (rules_of 4))))) ≡ None → LineIs at
-        go₁ true e h = line_work (eqb-true (byte_at bs at) 1 e) h
-        go₁ false e h = go₂ (eqb (byte_at bs at) 2) refl (eqb-false (byte_at bs at) 1 e) h
+        is_loop _ _ u.0 u.1.0 (omega arith) refl (e, (refl, (refl, u.1.1)))

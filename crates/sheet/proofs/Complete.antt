@@ -4,12 +4,15 @@ use Rattle.std.proofs.lemmas.Bool.{eq-eqb, lt-ltb, le-leb}
 use Rattle.std.proofs.lemmas.List.{length-append}
 use Rattle.sheet.specs.Code.{Code, stop, work, literal, choose, repeat, size_of, Keeps}
 use Rattle.sheet.specs.Layout.{Program, Lawful, Rising, work_bytes, literal_bytes, other_bytes, code_bytes, header, sheet_bytes}
-use Rattle.sheet.specs.Checks.{byte_at, word_at, or_else, header_of, limit_fault, offset_fault, marks_fault, rules_of, bytes_fault, opened, nested, placed, faulted, line_says, lines_fault, sheet_fault}
+use Rattle.sheet.specs.Kinds.{byte_of, kind_of}
+use Rattle.sheet.specs.Checks.{byte_at, word_at, or_else, header_of, limit_fault, offset_fault, marks_fault, rules_of, opened, nested, placed, faulted, kinded, line_says, lines_fault, sheet_fault}
 use Rattle.sheet.specs.Reading.{Laid}
+use Rattle.sheet.specs.declared.kinds.LineKind.{LineKind}
+use Rattle.sheet.specs.declared.kinds.LineKind.TheVariants.{Work, Literal, If, Else, End, Loop}
 use Rattle.sheet.specs.declared.nesting.Open.{Open}
 use Rattle.sheet.specs.declared.nesting.Open.TheVariants.{First, Second, Body}
 use Rattle.sheet.proofs.Stands.{Stands, stands_split, stands_moved, stands_self}
-use Rattle.sheet.proofs.Stepping.{passed, line_said}
+use Rattle.sheet.proofs.Stepping.{passed, line_said, kind_of-byte_of}
 use Rattle.sheet.proofs.Bytes.{Obey, faultless}
 use Rattle.sheet.proofs.Sound.{code_length, word_of}
 
@@ -18,11 +21,11 @@ Here = Stands 0
 
 module _ (cells : ℕ) (bs : List ℕ) where
   -- a line of the layout, where it may stand
-  said : (at kind : ℕ) (us : List ℕ) (os os' : List Open) → Here bs at (kind ∷ us) → Obey cells (rules_of kind) (kind ∷ us) → nested kind os ≡ Some os' →
+  said : (at : ℕ) (kind : LineKind) (us : List ℕ) (os os' : List Open) → Here bs at (byte_of kind ∷ us) → Obey cells (rules_of kind) us → nested kind os ≡ Some os' →
       line_says cells bs at os ≡ Ok os'
   said at kind us os os' h o n =
-      ap (λ k. faulted (bytes_fault cells bs at (rules_of k)) (placed at (nested k os))) h.0
-      ∙ ap (λ f. faulted f (placed at (nested kind os))) (faultless cells bs at (rules_of kind) (kind ∷ us) o h) ∙ ap (placed at) n
+      ap (λ b. kinded cells bs at os (kind_of b)) h.0 ∙ ap (kinded cells bs at os) (kind_of-byte_of kind)
+      ∙ ap (λ f. faulted f (placed at (nested kind os))) (faultless cells bs (at + 1) (rules_of kind) us o h.1) ∙ ap (placed at) n
 
   opens : (o : Open) (os : List Open) → length os < 6 → opened o os ≡ Some (o ∷ os)
   opens o os l = ap (λ t. cond t (Some (o ∷ os)) None) (lt-ltb (length os) 6 l)
@@ -46,13 +49,13 @@ module _ (cells : ℕ) (bs : List ℕ) where
       let s = stands_split 0 bs at (work_bytes t o a b) (code_bytes r) h in
       let e : at + 8 + 8 * size_of r ≡ at + 8 * (1 + size_of r) = omega arith in
       line_said cells bs at os (1 + size_of r + n) (size_of r + n) (omega arith) os
-      (said at 1 (t ∷ o ∷ a ∷ b ∷ 0 ∷ 0 ∷ 0 ∷ []) os os s.0 (refl, (lt-ltb t cells k.0, (le-leb o 7 k.1, (lt-ltb a cells k.2, (lt-ltb b cells k.3, (refl, (refl, (refl, tt)))))))) refl)
+      (said at Work (t ∷ o ∷ a ∷ b ∷ 0 ∷ 0 ∷ 0 ∷ []) os os s.0 (lt-ltb t cells k.0, (le-leb o 7 k.1, (lt-ltb a cells k.2, (lt-ltb b cells k.3, (refl, (refl, (refl, tt))))))) refl)
       ∙ code_passes r (at + 8) n os s.1 k.4 ∙ ap (λ y. lines_fault cells bs y n os) e
   code_passes (literal t v r) at n os h k =
       let s = stands_split 0 bs at (literal_bytes t v) (code_bytes r) h in
       let e : at + 8 + 8 * size_of r ≡ at + 8 * (1 + size_of r) = omega arith in
       line_said cells bs at os (1 + size_of r + n) (size_of r + n) (omega arith) os
-      (said at 2 (t ∷ 0 ∷ 0 ∷ v % 256 ∷ v / 256 % 256 ∷ v / 65536 % 256 ∷ v / 16777216 ∷ []) os os s.0 (refl, (lt-ltb t cells k.0, (refl, (refl, (refl, (refl, (refl, (refl, tt)))))))) refl)
+      (said at Literal (t ∷ 0 ∷ 0 ∷ v % 256 ∷ v / 256 % 256 ∷ v / 65536 % 256 ∷ v / 16777216 ∷ []) os os s.0 (lt-ltb t cells k.0, (refl, (refl, (refl, (refl, (refl, (refl, tt))))))) refl)
       ∙ code_passes r (at + 8) n os s.1 k.2 ∙ ap (λ y. lines_fault cells bs y n os) e
   code_passes (choose x p q r) at n os h k =
       let s₀ = stands_split 0 bs at (other_bytes 3 x 0) (code_bytes p ++ (other_bytes 4 0 0 ++ (code_bytes q ++ (other_bytes 5 0 0 ++ code_bytes r)))) h in
@@ -67,13 +70,13 @@ module _ (cells : ℕ) (bs : List ℕ) where
       let n₁ = size_of p + suc n₂ in
       let e : a₂ + 8 + 8 * size_of r ≡ at + 8 * (3 + size_of p + size_of q + size_of r) = omega arith in
       line_said cells bs at os (3 + size_of p + size_of q + size_of r + n) n₁ (omega arith) (First ∷ os)
-      (said at 3 (x ∷ 0 ∷ 0 ∷ 0 ∷ 0 ∷ 0 ∷ 0 ∷ []) os (First ∷ os) s₀.0 (refl, (lt-ltb x cells k.0, (refl, (refl, (refl, (refl, (refl, (refl, tt)))))))) (opens First os (omega arith)))
+      (said at If (x ∷ 0 ∷ 0 ∷ 0 ∷ 0 ∷ 0 ∷ 0 ∷ []) os (First ∷ os) s₀.0 (lt-ltb x cells k.0, (refl, (refl, (refl, (refl, (refl, (refl, tt))))))) (opens First os (omega arith)))
       ∙ code_passes p (at + 8) (suc n₂) (First ∷ os) s₁.0 (deeper os p k.2)
       ∙ line_said cells bs a₁ (First ∷ os) (suc n₂) n₂ refl (Second ∷ os)
-      (said a₁ 4 (0 ∷ 0 ∷ 0 ∷ 0 ∷ 0 ∷ 0 ∷ 0 ∷ []) (First ∷ os) (Second ∷ os) s₂.0 (refl, (refl, (refl, (refl, (refl, (refl, (refl, (refl, tt)))))))) refl)
+      (said a₁ Else (0 ∷ 0 ∷ 0 ∷ 0 ∷ 0 ∷ 0 ∷ 0 ∷ []) (First ∷ os) (Second ∷ os) s₂.0 (refl, (refl, (refl, (refl, (refl, (refl, (refl, tt))))))) refl)
       ∙ code_passes q (a₁ + 8) (suc n₃) (Second ∷ os) s₃.0 (deeper os q k.3)
       ∙ line_said cells bs a₂ (Second ∷ os) (suc n₃) n₃ refl os
-      (said a₂ 5 (0 ∷ 0 ∷ 0 ∷ 0 ∷ 0 ∷ 0 ∷ 0 ∷ []) (Second ∷ os) os s₄.0 (refl, (refl, (refl, (refl, (refl, (refl, (refl, (refl, tt)))))))) refl)
+      (said a₂ End (0 ∷ 0 ∷ 0 ∷ 0 ∷ 0 ∷ 0 ∷ 0 ∷ []) (Second ∷ os) os s₄.0 (refl, (refl, (refl, (refl, (refl, (refl, (refl, tt))))))) refl)
       ∙ code_passes r (a₂ + 8) n os s₄.1 k.4 ∙ ap (λ y. lines_fault cells bs y n os) e
   code_passes (repeat x v p r) at n os h k =
       let s₀ = stands_split 0 bs at (other_bytes 6 x v) (code_bytes p ++ (other_bytes 5 0 0 ++ code_bytes r)) h in
@@ -84,10 +87,10 @@ module _ (cells : ℕ) (bs : List ℕ) where
       let n₁ = size_of p + suc n₂ in
       let e : a₁ + 8 + 8 * size_of r ≡ at + 8 * (2 + size_of p + size_of r) = omega arith in
       line_said cells bs at os (2 + size_of p + size_of r + n) n₁ (omega arith) (Body ∷ os)
-      (said at 6 (x ∷ v ∷ 0 ∷ 0 ∷ 0 ∷ 0 ∷ 0 ∷ []) os (Body ∷ os) s₀.0 (refl, (lt-ltb x cells k.0, (le-leb 1 v k.1, (refl, (refl, (refl, (refl, (refl, tt)))))))) (opens Body os (omega arith)))
+      (said at Loop (x ∷ v ∷ 0 ∷ 0 ∷ 0 ∷ 0 ∷ 0 ∷ []) os (Body ∷ os) s₀.0 (lt-ltb x cells k.0, (le-leb 1 v k.1, (refl, (refl, (refl, (refl, (refl, tt))))))) (opens Body os (omega arith)))
       ∙ code_passes p (at + 8) (suc n₂) (Body ∷ os) s₁.0 (deeper os p k.4)
       ∙ line_said cells bs a₁ (Body ∷ os) (suc n₂) n₂ refl os
-      (said a₁ 5 (0 ∷ 0 ∷ 0 ∷ 0 ∷ 0 ∷ 0 ∷ 0 ∷ []) (Body ∷ os) os s₂.0 (refl, (refl, (refl, (refl, (refl, (refl, (refl, (refl, tt)))))))) refl)
+      (said a₁ End (0 ∷ 0 ∷ 0 ∷ 0 ∷ 0 ∷ 0 ∷ 0 ∷ []) (Body ∷ os) os s₂.0 (refl, (refl, (refl, (refl, (refl, (refl, (refl, tt))))))) refl)
       ∙ code_passes r (a₁ + 8) n os s₂.1 k.5 ∙ ap (λ y. lines_fault cells bs y n os) e
 
   -- rising marks have no fault

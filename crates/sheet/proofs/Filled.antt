@@ -2,13 +2,12 @@
 use Rattle.std.proofs.Common.{◌≡◌, ℕ, ◌+◌, ◌*◌, ◌<◌, ◌≤◌, ◌≢◌, List, length, set, sym, refl, ap, ◌∙◌, subst, inl, inr, ⊎_elim, arith}
 use Rattle.std.proofs.lemmas.List.{get_or-set_same, get_or-set_other, length-set}
 use Rattle.sheet.specs.Code.{Code, stop, work, literal, choose, repeat, size_of}
-use Rattle.sheet.specs.Checks.{byte_at}
 use Rattle.sheet.specs.Spans.{line_at, Spans}
-use Rattle.sheet.specs.Filling.{Begins, FilledFrom, Stepped}
+use Rattle.sheet.specs.Filling.{Begins, FilledFrom, Stepped, line_byte}
 use Rattle.sheet.specs.declared.lines.Line.{Line}
 use Rattle.sheet.specs.declared.lines.Line.TheVariants.{Work, Literal, If, Else, End, Loop}
 use Rattle.sheet.proofs.Heads.{spans_le}
-use Rattle.sheet.proofs.Blocks.{line_byte, has_work, has_literal, has_if, has_loop}
+use Rattle.sheet.proofs.Blocks.{has_work, has_literal, has_if, has_loop}
 
 -- a write, read there and elsewhere
 pub wrote : (ts : List Line) (i : ℕ) (l : Line) → i < length ts → line_at (set ts i l) i ≡ l
@@ -55,12 +54,12 @@ spans_same xs ys i j (repeat x n p r) s h =
       spans_same xs ys (z + 1) j r (λ k f g. s k (omega arith) (omega arith)) h.4,
     )
 
-module _ (bs : List ℕ) (base count : ℕ) where
+module _ (ls : List (List ℕ)) where
   abbrev Filled : ℕ → List Line → List Line → ℕ → Type 0
-  Filled i before after r = FilledFrom bs base count i before after r
+  Filled i before after r = FilledFrom ls i before after r
 
   -- nothing is left of the block
-  pub filled_none : (i : ℕ) (ts : List Line) → ((c : Code) → Begins bs base count i c → c ≡ stop) → Filled i ts ts i
+  pub filled_none : (i : ℕ) (ts : List Line) → ((c : Code) → Begins ls i c → c ≡ stop) → Filled i ts ts i
   filled_none i ts f =
       record {
         long = refl;
@@ -69,7 +68,7 @@ module _ (bs : List ℕ) (base count : ℕ) where
       }
 
   -- a line or construct, and then the rest
-  pub filled_then : (i n r : ℕ) (ts us vs : List Line) → ((c : Code) × Begins bs base count i c) → Stepped bs base count i ts us n → Filled n us vs r → Filled i ts vs r
+  pub filled_then : (i n r : ℕ) (ts us vs : List Line) → ((c : Code) × Begins ls i c) → Stepped ls i ts us n → Filled n us vs r → Filled i ts vs r
   filled_then i n r ts us vs b₀ s d =
       let w₀ = s.onward b₀.0 b₀.1 in
       let e₀ = (d.spans w₀.rest w₀.begins).0 in
@@ -83,10 +82,10 @@ module _ (bs : List ℕ) (base count : ℕ) where
             (let e = g.0 in let z = w.size in omega arith, w.spans vs r (λ k f h. d.outside k (inl h)) g.1);
       }
 
-  module _ (i : ℕ) (more : i < count) (ts : List Line) (room : i < length ts) where
+  module _ (i : ℕ) (more : i < length ls) (ts : List Line) (room : i < length ts) where
     -- a line in its place
-    stepped_line : (l : Line) → ((c : Code) → Begins bs base count i c → (rest : Code) × Begins bs base count (i + 1) rest × (size_of c ≡ 1 + size_of rest) ×
-        ((xs : List Line) (j : ℕ) → line_at xs i ≡ l → Spans xs (i + 1) j rest → Spans xs i j c)) → Stepped bs base count i ts (set ts i l) (i + 1)
+    stepped_line : (l : Line) → ((c : Code) → Begins ls i c → (rest : Code) × Begins ls (i + 1) rest × (size_of c ≡ 1 + size_of rest) ×
+        ((xs : List Line) (j : ℕ) → line_at xs i ≡ l → Spans xs (i + 1) j rest → Spans xs i j c)) → Stepped ls i ts (set ts i l) (i + 1)
     stepped_line l f =
         record {
           long = length-set ts i l;
@@ -102,24 +101,24 @@ module _ (bs : List ℕ) (base count : ℕ) where
               };
         }
 
-    pub stepped_work : byte_at bs (base + 8 * i) ≡ 1 →
-        Stepped bs base count i ts (set ts i (Work (line_byte bs base i 1) (line_byte bs base i 2) (line_byte bs base i 3) (line_byte bs base i 4))) (i + 1)
+    pub stepped_work : line_byte ls i 0 ≡ 1 →
+        Stepped ls i ts (set ts i (Work (line_byte ls i 1) (line_byte ls i 2) (line_byte ls i 3) (line_byte ls i 4))) (i + 1)
     stepped_work k = stepped_line _ (λ c b.
-        let v = has_work bs base count i more c b k in
+        let v = has_work ls i more c b k in
         (v.rest, v.begins, ap size_of v.is, λ xs j e h. subst (λ y. Spans xs i j y) (sym v.is) (e, h)))
 
-    pub stepped_literal : (n : ℕ) → n ≡ line_byte bs base i 4 + 256 * line_byte bs base i 5 + 65536 * line_byte bs base i 6 + 16777216 * line_byte bs base i 7 →
-        byte_at bs (base + 8 * i) ≡ 2 → Stepped bs base count i ts (set ts i (Literal (line_byte bs base i 1) n)) (i + 1)
+    pub stepped_literal : (n : ℕ) → n ≡ line_byte ls i 4 + 256 * line_byte ls i 5 + 65536 * line_byte ls i 6 + 16777216 * line_byte ls i 7 →
+        line_byte ls i 0 ≡ 2 → Stepped ls i ts (set ts i (Literal (line_byte ls i 1) n)) (i + 1)
     stepped_literal n w k = stepped_line _ (λ c b.
-        let v = has_literal bs base count i more n w c b k in
+        let v = has_literal ls i more n w c b k in
         (v.rest, v.begins, ap size_of v.is, λ xs j e h. subst (λ y. Spans xs i j y) (sym v.is) (e, h)))
 
-  module _ (i : ℕ) (more : i < count) (ts us : List Line) (m : ℕ) (le : i < m) (d₁ : Filled (i + 1) ts us m) where
+  module _ (i : ℕ) (more : i < length ls) (ts us : List Line) (m : ℕ) (le : i < m) (d₁ : Filled (i + 1) ts us m) where
     -- an if: its two blocks, and then its three lines
-    pub stepped_if : (vs : List Line) (z : ℕ) → m < z → z < length ts → Filled (m + 1) us vs z → byte_at bs (base + 8 * i) ≡ 3 →
-        Stepped bs base count i ts (set (set (set vs i (If (line_byte bs base i 1) m)) m (Else z)) z (End i)) (z + 1)
+    pub stepped_if : (vs : List Line) (z : ℕ) → m < z → z < length ts → Filled (m + 1) us vs z → line_byte ls i 0 ≡ 3 →
+        Stepped ls i ts (set (set (set vs i (If (line_byte ls i 1) m)) m (Else z)) z (End i)) (z + 1)
     stepped_if vs z lz room d₂ k =
-        let x = line_byte bs base i 1 in
+        let x = line_byte ls i 1 in
         let v₁ = set vs i (If x m) in
         let v₂ = set v₁ m (Else z) in
         let v₃ = set v₂ z (End i) in
@@ -133,16 +132,16 @@ module _ (bs : List ℕ) (base count : ℕ) where
           outside = λ y o. keep y (⊎_elim (λ g. omega arith) (λ g. omega arith) o) (⊎_elim (λ g. omega arith) (λ g. omega arith) o) (⊎_elim (λ g. omega arith) (λ g. omega arith) o)
               ∙ d₂.outside y (⊎_elim (λ g. inl (omega arith)) (λ g. inr (omega arith)) o) ∙ d₁.outside y (⊎_elim (λ g. inl (omega arith)) (λ g. inr (omega arith)) o);
           onward = λ c b.
-              let v = has_if bs base count i more c b k in
+              let v = has_if ls i more c b k in
               let g₁ = d₁.spans v.first v.begins_first in
               let em = g₁.0 in
-              let g₂ = d₂.spans v.second (subst (λ y. Begins bs base count (y + 1) v.second) (sym em) v.begins_second) in
+              let g₂ = d₂.spans v.second (subst (λ y. Begins ls (y + 1) v.second) (sym em) v.begins_second) in
               let ez = g₂.0 in
               let er : i + 1 + size_of v.first + 1 + size_of v.second + 1 ≡ z + 1 = omega arith in
               let ec : i + (3 + size_of v.first + size_of v.second + size_of v.rest) ≡ z + 1 + size_of v.rest = omega arith in
               record {
                 rest = v.rest;
-                begins = subst (λ y. Begins bs base count y v.rest) er v.begins_rest;
+                begins = subst (λ y. Begins ls y v.rest) er v.begins_rest;
                 size = ap (λ y. i + size_of y) v.is ∙ ec;
                 spans = λ xs j s h. subst (λ y. Spans xs i j y) (sym v.is) (
                   m,
@@ -158,10 +157,10 @@ module _ (bs : List ℕ) (base count : ℕ) where
         }
 
     -- a loop: its block, and then its two lines
-    pub stepped_loop : m < length ts → byte_at bs (base + 8 * i) ≡ 6 →
-        Stepped bs base count i ts (set (set us i (Loop (line_byte bs base i 1) (line_byte bs base i 2) m)) m (End i)) (m + 1)
+    pub stepped_loop : m < length ts → line_byte ls i 0 ≡ 6 →
+        Stepped ls i ts (set (set us i (Loop (line_byte ls i 1) (line_byte ls i 2) m)) m (End i)) (m + 1)
     stepped_loop room k =
-        let l = Loop (line_byte bs base i 1) (line_byte bs base i 2) m in
+        let l = Loop (line_byte ls i 1) (line_byte ls i 2) m in
         let v₁ = set us i l in
         let v₂ = set v₁ m (End i) in
         let n₁ : length v₁ ≡ length ts = length-set us i l ∙ d₁.long in
@@ -173,14 +172,14 @@ module _ (bs : List ℕ) (base count : ℕ) where
           outside = λ y o. keep y (⊎_elim (λ g. omega arith) (λ g. omega arith) o) (⊎_elim (λ g. omega arith) (λ g. omega arith) o)
               ∙ d₁.outside y (⊎_elim (λ g. inl (omega arith)) (λ g. inr (omega arith)) o);
           onward = λ c b.
-              let v = has_loop bs base count i more c b k in
+              let v = has_loop ls i more c b k in
               let g₁ = d₁.spans v.first v.begins_first in
               let em = g₁.0 in
               let er : i + 1 + size_of v.first + 1 ≡ m + 1 = omega arith in
               let ec : i + (2 + size_of v.first + size_of v.rest) ≡ m + 1 + size_of v.rest = omega arith in
               record {
                 rest = v.rest;
-                begins = subst (λ y. Begins bs base count y v.rest) er v.begins_rest;
+                begins = subst (λ y. Begins ls y v.rest) er v.begins_rest;
                 size = ap (λ y. i + size_of y) v.is ∙ ec;
                 spans = λ xs j s h. subst (λ y. Spans xs i j y) (sym v.is) (
                   m,
@@ -193,43 +192,30 @@ module _ (bs : List ℕ) (base count : ℕ) where
         }
 
   -- where the lines of an if and of a loop lie
-  module _ (i : ℕ) (more : i < count) (c : Code) (b : Begins bs base count i c) (ts us : List Line) (m : ℕ) (d₁ : Filled (i + 1) ts us m) where
+  module _ (i : ℕ) (more : i < length ls) (c : Code) (b : Begins ls i c) (ts us : List Line) (m : ℕ) (d₁ : Filled (i + 1) ts us m) where
     pub record Midway : Type 0 where
       pub after : i < m
-      pub within : m < count
-      pub code : (q : Code) × Begins bs base count (m + 1) q
+      pub within : m < length ls
+      pub code : (q : Code) × Begins ls (m + 1) q
 
-    pub if_middle_lem : byte_at bs (base + 8 * i) ≡ 3 → Midway
+    pub if_middle_lem : line_byte ls i 0 ≡ 3 → Midway
     if_middle_lem k =
-        let v = has_if bs base count i more c b k in
+        let v = has_if ls i more c b k in
         let e = (d₁.spans v.first v.begins_first).0 in
         let w = v.begins_second.within in
-        record { after = omega arith; within = omega arith; code = (v.second, subst (λ y. Begins bs base count (y + 1) v.second) (sym e) v.begins_second) }
+        record { after = omega arith; within = omega arith; code = (v.second, subst (λ y. Begins ls (y + 1) v.second) (sym e) v.begins_second) }
 
-    pub loop_end_lem : byte_at bs (base + 8 * i) ≡ 6 → Midway
+    pub loop_end_lem : line_byte ls i 0 ≡ 6 → Midway
     loop_end_lem k =
-        let v = has_loop bs base count i more c b k in
+        let v = has_loop ls i more c b k in
         let e = (d₁.spans v.first v.begins_first).0 in
         let w = v.begins_rest.within in
-        record { after = omega arith; within = omega arith; code = (v.rest, subst (λ y. Begins bs base count (y + 1) v.rest) (sym e) v.begins_rest) }
+        record { after = omega arith; within = omega arith; code = (v.rest, subst (λ y. Begins ls (y + 1) v.rest) (sym e) v.begins_rest) }
 
-    pub if_end : (vs : List Line) (z : ℕ) → Filled (m + 1) us vs z → byte_at bs (base + 8 * i) ≡ 3 → (m < z) × (z < count)
+    pub if_end : (vs : List Line) (z : ℕ) → Filled (m + 1) us vs z → line_byte ls i 0 ≡ 3 → (m < z) × (z < length ls)
     if_end vs z d₂ k =
-        let v = has_if bs base count i more c b k in
+        let v = has_if ls i more c b k in
         let e = (d₁.spans v.first v.begins_first).0 in
-        let e₂ = (d₂.spans v.second (subst (λ y. Begins bs base count (y + 1) v.second) (sym e) v.begins_second)).0 in
+        let e₂ = (d₂.spans v.second (subst (λ y. Begins ls (y + 1) v.second) (sym e) v.begins_second)).0 in
         let w = v.begins_rest.within in
         (omega arith, omega arith)
-
-  -- the four bytes of a literal's number
-  pub number_bytes : (i n : ℕ) → n ≡ byte_at bs (base + 8 * i + 4) + 256 * byte_at bs (base + 8 * i + 4 + 1) + 65536 * byte_at bs (base + 8 * i + 4 + 2) + 16777216 * byte_at bs (base + 8 * i + 4 + 3) →
-      n ≡ line_byte bs base i 4 + 256 * line_byte bs base i 5 + 65536 * line_byte bs base i 6 + 16777216 * line_byte bs base i 7
-  number_bytes i n e =
-      let p = base + 8 * i in
-      let p₅ : p + 4 + 1 ≡ p + 5 = omega arith in
-      let p₆ : p + 4 + 2 ≡ p + 6 = omega arith in
-      let p₇ : p + 4 + 3 ≡ p + 7 = omega arith in
-      let e₅ = ap (byte_at bs) p₅ in
-      let e₆ = ap (byte_at bs) p₆ in
-      let e₇ = ap (byte_at bs) p₇ in
-      omega arith

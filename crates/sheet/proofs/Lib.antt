@@ -1,9 +1,8 @@
 pub mod Stands
 pub mod Heads
 pub mod Listed
-pub mod Stacks
-pub mod Moving
 pub mod Stepping
+pub mod Chunks
 pub mod Bytes
 pub mod Sound
 pub mod Complete

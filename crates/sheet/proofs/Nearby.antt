@@ -1,10 +1,12 @@
 -- How far into a sheet the place of a fault can lie.
 use Rattle.std.proofs.Common.{◌≡◌, ℕ, zero, suc, ◌+◌, ◌*◌, ◌≤◌, Bool, true, false, eqb, ltb, leb, List, [], ◌∷◌, length, Some, None, Ok, Err, Option, Result, refl, ap, subst, arith}
 use Rattle.std.proofs.lemmas.Bool.{leb-true}
-use Rattle.sheet.specs.Checks.{byte_at, word_at, unless, or_else, header_of, limit_fault, offset_fault, marks_fault, rules_of, obeys, bytes_fault, nested, placed, faulted, line_says, lines_fault, sheet_fault}
+use Rattle.sheet.specs.Kinds.{kind_of}
+use Rattle.sheet.specs.Checks.{byte_at, word_at, unless, or_else, header_of, limit_fault, offset_fault, marks_fault, rules_of, obeys, bytes_fault, nested, placed, faulted, kinded, line_says, lines_fault, sheet_fault}
 use Rattle.sheet.specs.Refusals.{place_of}
 use Rattle.sheet.specs.declared.faults.ReadFault.{ReadFault}
 use Rattle.sheet.specs.declared.faults.ReadFault.TheVariants.{Short, Limit, Offset, Mark, Byte, Nesting}
+use Rattle.sheet.specs.declared.kinds.LineKind.{LineKind}
 use Rattle.sheet.specs.declared.nesting.Open.{Open}
 use Rattle.sheet.specs.declared.rules.Rule.{Rule}
 use Rattle.sheet.proofs.Stepping.{rules_length}
@@ -55,6 +57,13 @@ module _ (cells : ℕ) (bs : List ℕ) where
   near_line at None (Some os) h f e = never (cc)
   near_line at (Some g) os h f e = let is : f ≡ g = cc in let p = ap place_of is in let l = h.place g refl in omega arith
 
+  near_kind : (at : ℕ) (os : List Open) (k : Option LineKind) (f : ReadFault) → kinded cells bs at os k ≡ Err f → place_of f ≤ at + 8
+  near_kind at os None f e = let is : f ≡ Byte at = cc in let p = ap place_of is in omega arith
+  near_kind at os (Some kind) f e =
+      let n = rules_length kind in
+      near_line at (bytes_fault cells bs (at + 1) (rules_of kind)) (nested kind os)
+      (further (bytes_fault cells bs (at + 1) (rules_of kind)) (at + 1 + length (rules_of kind)) (at + 8) (omega arith) (near_bytes (rules_of kind) (at + 1))) f e
+
   near_lines : (k at : ℕ) (os : List Open) → Near (lines_fault cells bs at k os) (at + 8 * k)
   near_lines zero at [] = near_none (at + 8 * 0)
   near_lines zero at (o ∷ os) = near_some (Nesting at) (at + 8 * 0) (omega arith)
@@ -64,9 +73,7 @@ module _ (cells : ℕ) (bs : List ℕ) where
           Near (elim r as (λ _. Option ReadFault) [ Ok os' ↦ lines_fault cells bs (at + 8) k os' | Err f ↦ Some f ]) (at + 8 * suc k)
       go (Ok os') e ih = further (lines_fault cells bs (at + 8) k os') (at + 8 + 8 * k) (at + 8 * suc k) (omega arith) (ih os')
       go (Err f) e ih =
-          let n = rules_length (byte_at bs at) in
-          let l = near_line at (bytes_fault cells bs at (rules_of (byte_at bs at))) (nested (byte_at bs at) os)
-          (further (bytes_fault cells bs at (rules_of (byte_at bs at))) (at + length (rules_of (byte_at bs at))) (at + 8) (omega arith) (near_bytes (rules_of (byte_at bs at)) at)) f e in
+          let l = near_kind at os (kind_of (byte_at bs at)) f e in
           near_some f (at + 8 * suc k) (omega arith)
 
 -- the header's limits, where it has no fault

@@ -4,13 +4,16 @@ use Rattle.std.proofs.lemmas.Bool.{eqb-true, ltb-true, leb-true}
 use Rattle.std.proofs.lemmas.List.{length-append, drop_all, append-nil}
 use Rattle.sheet.specs.Code.{Code, stop, work, literal, choose, repeat, size_of, Keeps}
 use Rattle.sheet.specs.Layout.{Program, Lawful, Rising, work_bytes, literal_bytes, other_bytes, code_bytes, sheet_bytes}
-use Rattle.sheet.specs.Checks.{byte_at, word_at, header_of, limit_fault, offset_fault, marks_fault, rules_of, bytes_fault, opened, turned, closed, nested, placed, faulted, line_says, lines_fault, sheet_fault}
+use Rattle.sheet.specs.Kinds.{byte_of, kind_of}
+use Rattle.sheet.specs.Checks.{byte_at, word_at, header_of, limit_fault, offset_fault, marks_fault, rules_of, bytes_fault, opened, turned, closed, nested, placed, faulted, kinded, line_says, lines_fault, sheet_fault}
 use Rattle.sheet.specs.Results.{Bytes}
 use Rattle.sheet.specs.Reading.{Laid}
 use Rattle.sheet.specs.declared.faults.ReadFault.{ReadFault}
+use Rattle.sheet.specs.declared.kinds.LineKind.{LineKind}
 use Rattle.sheet.specs.declared.nesting.Open.{Open}
 use Rattle.sheet.specs.declared.nesting.Open.TheVariants.{First, Second, Body}
 use Rattle.sheet.proofs.Stands.{Stands, stands_append, stands_moved, stands_front}
+use Rattle.sheet.proofs.Stepping.{byte_of_kind}
 use Rattle.sheet.proofs.Bytes.{unless_none, or_none, LineIs, is_work, is_literal, is_if, is_else, is_end, is_loop, line_is}
 
 never : {A : Type 0} → ◌≡◌ {A = ℕ} 0 1 → A
@@ -159,34 +162,46 @@ module _ (cells : ℕ) (bs : List ℕ) where
       go true g h = (ltb-true (length os) 6 g, cc)
       go false g h = never (cc)
 
-  line_says_lem : (at : ℕ) (os os' : List Open) → line_says cells bs at os ≡ Ok os' →
-      (bytes_fault cells bs at (rules_of (byte_at bs at)) ≡ None) × (nested (byte_at bs at) os ≡ Some os')
-  line_says_lem at os os' e = go (bytes_fault cells bs at (rules_of (byte_at bs at))) (nested (byte_at bs at) os) refl e
-    where
-      inner : (b : Option (List Open)) → placed at b ≡ Ok os' → b ≡ Some os'
-      inner None h = never (cc)
-      inner (Some os'') h = cc
+  -- what a line that may stand where `os` is open says
+  record Said (at : ℕ) (os os' : List Open) : Type 0 where
+    kind : LineKind
+    byte : byte_at bs at ≡ byte_of kind
+    faultless : bytes_fault cells bs (at + 1) (rules_of kind) ≡ None
+    after : nested kind os ≡ Some os'
 
-      go : (a : Option ReadFault) (b : Option (List Open)) → a ≡ a → faulted a (placed at b) ≡ Ok os' → (a ≡ None) × (b ≡ Some os')
-      go None b g h = (refl, inner b h)
-      go (Some f) b g h = never (cc)
+  line_says_lem : (at : ℕ) (os os' : List Open) → line_says cells bs at os ≡ Ok os' → Said at os os'
+  line_says_lem at os os' e = go (kind_of (byte_at bs at)) refl e
+    where
+      placed_ok : (b : Option (List Open)) → placed at b ≡ Ok os' → b ≡ Some os'
+      placed_ok None h = never (cc)
+      placed_ok (Some os'') h = cc
+
+      faulted_ok : (a : Option ReadFault) (b : Option (List Open)) → faulted a (placed at b) ≡ Ok os' → (a ≡ None) × (b ≡ Some os')
+      faulted_ok None b h = (refl, placed_ok b h)
+      faulted_ok (Some f) b h = never (cc)
+
+      go : (k : Option LineKind) → kind_of (byte_at bs at) ≡ k → kinded cells bs at os k ≡ Ok os' → Said at os os'
+      go None g h = never (cc)
+      go (Some kind) g h =
+          let p = faulted_ok (bytes_fault cells bs (at + 1) (rules_of kind)) (nested kind os) h in
+          record { kind = kind; byte = byte_of_kind (byte_at bs at) kind g; faultless = p.0; after = p.1 }
 
   -- a line in front of what is left
-  with_line : (at end : ℕ) (os os' : List Open) → LineIs cells bs at → nested (byte_at bs at) os ≡ Some os' → Block os' (at + 8) end → Block os at end
-  with_line at end os os' (is_work t o a b l₁ l₂ l₃ l₄ e h) g k =
+  with_line : (at end : ℕ) (kind : LineKind) (os os' : List Open) → LineIs cells bs at kind → nested kind os ≡ Some os' → Block os' (at + 8) end → Block os at end
+  with_line at end kind os os' (is_work t o a b l₁ l₂ l₃ l₄ e h) g k =
       let same : Some os ≡ Some os' = subst (λ y. nested y os ≡ Some os') e g in
       let es : os' ≡ os = cc in
       with_work os at end t o a b l₁ l₂ l₃ l₄ h (subst (λ y. Block y (at + 8) end) es k)
-  with_line at end os os' (is_literal t n l₁ l₂ e h) g k =
+  with_line at end kind os os' (is_literal t n l₁ l₂ e h) g k =
       let same : Some os ≡ Some os' = subst (λ y. nested y os ≡ Some os') e g in
       let es : os' ≡ os = cc in
       with_literal os at end t n l₁ l₂ h (subst (λ y. Block y (at + 8) end) es k)
-  with_line at end os os' (is_if x l e h) g k =
+  with_line at end kind os os' (is_if x l e h) g k =
       let o = opens First os os' (subst (λ y. nested y os ≡ Some os') e g) in
       with_if os at end x l o.0 h (subst (λ y. Block y (at + 8) end) o.1 k)
-  with_line at end os os' (is_else e h) g k = with_else os os' at end (subst (λ y. nested y os ≡ Some os') e g) h k
-  with_line at end os os' (is_end e h) g k = with_end os os' at end (subst (λ y. nested y os ≡ Some os') e g) h k
-  with_line at end os os' (is_loop x n l l₁ l₂ e h) g k =
+  with_line at end kind os os' (is_else e h) g k = with_else os os' at end (subst (λ y. nested y os ≡ Some os') e g) h k
+  with_line at end kind os os' (is_end e h) g k = with_end os os' at end (subst (λ y. nested y os ≡ Some os') e g) h k
+  with_line at end kind os os' (is_loop x n l l₁ l₂ e h) g k =
       let o = opens Body os os' (subst (λ y. nested y os ≡ Some os') e g) in
       with_loop os at end x n l l₁ l₂ o.0 h (subst (λ y. Block y (at + 8) end) o.1 k)
 
@@ -197,7 +212,7 @@ module _ (cells : ℕ) (bs : List ℕ) where
     line_then at n os ih (Ok os') e h =
         let s = line_says_lem at os os' e in
         let k = subst (λ y. Block os' (at + 8) y) (let g : at + 8 + 8 * n ≡ at + 8 * suc n = omega arith in g) (ih os' h) in
-        with_line at (at + 8 * suc n) os os' (line_is cells bs at bytes s.0) s.1 k
+        with_line at (at + 8 * suc n) s.kind os os' (line_is cells bs at bytes s.kind s.byte s.faultless) s.after k
     line_then at n os ih (Err f) e h = never (cc)
 
     blocks : (n at : ℕ) (os : List Open) → lines_fault cells bs at n os ≡ None → Block os at (at + 8 * n)

@@ -1,23 +1,25 @@
 -- What the reader's answers mean: a sheet that is taken is a program, and one that is refused is none.
-use Rattle.std.proofs.Common.{◌≡◌, ℕ, ◌+◌, ◌*◌, ◌≤◌, List, ◌++◌, length, take, drop, Some, None, sym, ap, ◌∙◌, subst, inl, inr, arith}
-use Rattle.std.proofs.lemmas.List.{length-append, length-drop, get_or-drop, ext_get_or}
+use Rattle.std.proofs.Common.{◌≡◌, ℕ, ◌+◌, ◌*◌, ◌≤◌, List, [], ◌++◌, length, take, drop, Some, None, sym, refl, ap, ◌∙◌, subst, inl, inr, arith}
+use Rattle.std.specs.Simd.{first_chunks}
+use Rattle.std.proofs.lemmas.List.{drop-drop, drop_at, length-append, length-drop, get_or-drop, ext_get_or}
 use Rattle.sheet.specs.Code.{size_of}
 use Rattle.sheet.specs.Table.{lines_of}
-use Rattle.sheet.specs.Layout.{Program, header, code_bytes, sheet_bytes}
+use Rattle.sheet.specs.Layout.{Program, code_bytes, sheet_bytes}
 use Rattle.sheet.specs.Checks.{word_at, header_of, sheet_fault}
 use Rattle.sheet.specs.Results.{Bytes}
 use Rattle.sheet.specs.Reading.{Laid, Tells, Filled}
-use Rattle.sheet.specs.Filling.{Begins, FilledFrom}
+use Rattle.sheet.specs.Filling.{Begins, FilledFrom, code_lines}
 use Rattle.sheet.specs.Spans.{Spans}
 use Rattle.sheet.specs.declared.faults.ReadFault.{ReadFault}
 use Rattle.sheet.specs.declared.headers.Header.{Header}
 use Rattle.sheet.specs.declared.headers.Sheet.{Sheet}
 use Rattle.sheet.specs.declared.lines.Line.{Line}
 use Rattle.sheet.specs.declared.lines.Line.TheVariants.{Work}
-use Rattle.sheet.proofs.Stands.{Stands, stands_take, stands_split, stands_self, stands_moved, stands_front}
+use Rattle.sheet.proofs.Stands.{Stands, stands_take, stands_self, stands_front}
 use Rattle.sheet.proofs.Listed.{lines_size, spans_to_list, front_spans}
 use Rattle.sheet.proofs.Sound.{Sheeted, sheeted, code_length, word_of}
 use Rattle.sheet.proofs.Complete.{layout_passes}
+use Rattle.sheet.proofs.Chunks.{code_chunks}
 
 pub refused : (bs : List ℕ) (f : ReadFault) → Some f ≡ sheet_fault bs → (p : Program) → Laid bs p → ⊥
 refused bs f e p laid = let g = layout_passes bs p laid in let z : ◌≡◌ {A = ℕ} 0 1 = cc in omega arith
@@ -54,18 +56,19 @@ module _ (bs : List ℕ) (p : Program) (laid : Laid bs p) where
   pub laid_long : length bs ≡ 14 + length p.marks + 8 * size_of p.code
   laid_long = let l = code_length p.code in ap length laid.bytes ∙ simp length-append (omega arith)
 
-  pub laid_begins : (base n : ℕ) → base ≡ 14 + length p.marks → n ≡ size_of p.code → Begins bs base n 0 p.code
-  laid_begins base n e s =
-      let ts = sheet_bytes p in
-      let whole = (stands_split 0 ts 0 (header p) (p.marks ++ code_bytes p.code) (stands_self 0 ts)).1 in
-      let lines = (stands_split 0 ts 14 p.marks (code_bytes p.code) whole).1 in
-      let here = subst (λ y. Stands 0 y (14 + length p.marks) (code_bytes p.code)) (sym laid.bytes) lines in
-      record { here = stands_moved 0 bs (14 + length p.marks) (base + 8 * 0) (code_bytes p.code) (omega arith) here; within = omega arith; closes = inl (omega arith) }
+  pub laid_begins : (first : ℕ) (lines : List (List ℕ)) → first ≡ 14 + length p.marks → length lines ≡ size_of p.code →
+      lines ≡ first_chunks 8 (length lines) (drop first bs) → Begins lines 0 p.code
+  laid_begins first lines e n pieces =
+      let rest : drop first bs ≡ code_bytes p.code =
+      ap (drop first) laid.bytes ∙ ap (λ y. drop y (sheet_bytes p)) e
+      ∙ sym (drop-drop (length p.marks) 14 (sheet_bytes p)) ∙ drop_at p.marks (code_bytes p.code) (length p.marks) refl in
+      let is : lines ≡ code_lines p.code = pieces ∙ ap (first_chunks 8 (length lines)) rest ∙ code_chunks p.code (length lines) n in
+      record { here = subst (λ y. Stands [] y 0 (code_lines p.code)) (sym is) (stands_self [] (code_lines p.code)); within = omega arith; closes = inl (omega arith) }
 
 -- the table after the whole code has been filled in
-pub table_filled : (bs : List ℕ) (base n r : ℕ) (p : Program) (before after : List Line) → n ≡ size_of p.code → n ≤ length before →
-    Begins bs base n 0 p.code → FilledFrom bs base n 0 before after r → Filled p before after
-table_filled bs base n r p before after e room b d =
+pub table_filled : (lines : List (List ℕ)) (r : ℕ) (p : Program) (before after : List Line) → size_of p.code ≤ length before →
+    Begins lines 0 p.code → FilledFrom lines 0 before after r → Filled p before after
+table_filled lines r p before after room b d =
     let g = d.spans p.code b in
     let k = size_of p.code in
     let rk : r ≡ k = let e₁ = g.0 in omega arith in

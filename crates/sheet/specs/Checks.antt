@@ -1,13 +1,16 @@
 -- The first fault of the bytes of a sheet: the header's fields, the marks, and then line by line, each by rising
 -- places; in a line its bytes come before its nesting.
-use Rattle.std.specs.Prelude.{ℕ, zero, suc, ◌+◌, ◌*◌, Bool, true, false, cond, ◌&&◌, List, [], ◌∷◌, length, Some, None, Ok, Err, Option, Result, ◌==◌, nat_le, nat_lt, slice_index}
+use Rattle.std.specs.Prelude.{ℕ, zero, suc, ◌+◌, ◌*◌, Bool, true, false, cond, List, [], ◌∷◌, length, Some, None, Ok, Err, Option, Result, ◌==◌, nat_le, nat_lt, slice_index}
+use Rattle.sheet.specs.Kinds.{kind_of}
 use Rattle.sheet.specs.declared.faults.ReadFault.{ReadFault}
 use Rattle.sheet.specs.declared.faults.ReadFault.TheVariants.{Short, Limit, Offset, Mark, Byte, Nesting, Table}
 use Rattle.sheet.specs.declared.headers.Header.{Header}
+use Rattle.sheet.specs.declared.kinds.LineKind.{LineKind}
+use Rattle.sheet.specs.declared.kinds.LineKind.TheVariants.{Work, Literal, If, Else, End, Loop}
 use Rattle.sheet.specs.declared.nesting.Open.{Open}
 use Rattle.sheet.specs.declared.nesting.Open.TheVariants.{First, Second, Body}
 use Rattle.sheet.specs.declared.rules.Rule.{Rule}
-use Rattle.sheet.specs.declared.rules.Rule.TheVariants.{Kind, Cell, Operation, Bound, Any, Zero}
+use Rattle.sheet.specs.declared.rules.Rule.TheVariants.{Cell, Operation, Bound, Any, Zero}
 
 abbrev pub byte_at : List ℕ → ℕ → ℕ
 byte_at bs i = slice_index bs i
@@ -49,17 +52,16 @@ marks_fault cells bs low at zero = None
 marks_fault cells bs low at (suc n) =
     unless (nat_le low (byte_at bs at)) (Mark at) (unless (nat_lt (byte_at bs at) cells) (Mark at) (marks_fault cells bs (byte_at bs at + 1) (at + 1) n))
 
--- what each byte of a line of this kind may be
-abbrev pub rules_of : ℕ → List Rule
-rules_of kind =
-    cond (kind == 1) (Kind ∷ Cell ∷ Operation ∷ Cell ∷ Cell ∷ Zero ∷ Zero ∷ Zero ∷ [])
-    (cond (kind == 2) (Kind ∷ Cell ∷ Zero ∷ Zero ∷ Any ∷ Any ∷ Any ∷ Any ∷ [])
-    (cond (kind == 3) (Kind ∷ Cell ∷ Zero ∷ Zero ∷ Zero ∷ Zero ∷ Zero ∷ Zero ∷ [])
-    (cond (kind == 6) (Kind ∷ Cell ∷ Bound ∷ Zero ∷ Zero ∷ Zero ∷ Zero ∷ Zero ∷ [])
-    (Kind ∷ Zero ∷ Zero ∷ Zero ∷ Zero ∷ Zero ∷ Zero ∷ Zero ∷ []))))
+-- what each byte of a line of this kind may be, after the byte that names the kind
+abbrev pub rules_of : LineKind → List Rule
+rules_of Work = Cell ∷ Operation ∷ Cell ∷ Cell ∷ Zero ∷ Zero ∷ Zero ∷ []
+rules_of Literal = Cell ∷ Zero ∷ Zero ∷ Any ∷ Any ∷ Any ∷ Any ∷ []
+rules_of If = Cell ∷ Zero ∷ Zero ∷ Zero ∷ Zero ∷ Zero ∷ Zero ∷ []
+rules_of Else = Zero ∷ Zero ∷ Zero ∷ Zero ∷ Zero ∷ Zero ∷ Zero ∷ []
+rules_of End = Zero ∷ Zero ∷ Zero ∷ Zero ∷ Zero ∷ Zero ∷ Zero ∷ []
+rules_of Loop = Cell ∷ Bound ∷ Zero ∷ Zero ∷ Zero ∷ Zero ∷ Zero ∷ []
 
 abbrev pub obeys : ℕ → Rule → ℕ → Bool
-obeys cells Kind b = nat_le 1 b && nat_le b 6
 obeys cells Cell b = nat_lt b cells
 obeys cells Operation b = nat_le b 7
 obeys cells Bound b = nat_le 1 b
@@ -89,9 +91,13 @@ closed (Second ∷ os) = Some os
 closed (Body ∷ os) = Some os
 
 -- what is open after a line of this kind
-abbrev pub nested : ℕ → List Open → Option (List Open)
-nested kind os =
-    cond (kind == 3) (opened First os) (cond (kind == 4) (turned os) (cond (kind == 5) (closed os) (cond (kind == 6) (opened Body os) (Some os))))
+abbrev pub nested : LineKind → List Open → Option (List Open)
+nested Work os = Some os
+nested Literal os = Some os
+nested If os = opened First os
+nested Else os = turned os
+nested End os = closed os
+nested Loop os = opened Body os
 
 -- a line at the byte `at`: what is open after it, or its fault
 abbrev pub placed : ℕ → Option (List Open) → Result (List Open) ReadFault
@@ -102,8 +108,12 @@ abbrev pub faulted : Option ReadFault → Result (List Open) ReadFault → Resul
 faulted (Some f) rest = Err f
 faulted None rest = rest
 
+abbrev pub kinded : ℕ → List ℕ → ℕ → List Open → Option LineKind → Result (List Open) ReadFault
+kinded cells bs at os None = Err (Byte at)
+kinded cells bs at os (Some kind) = faulted (bytes_fault cells bs (at + 1) (rules_of kind)) (placed at (nested kind os))
+
 abbrev pub line_says : ℕ → List ℕ → ℕ → List Open → Result (List Open) ReadFault
-line_says cells bs at os = faulted (bytes_fault cells bs at (rules_of (byte_at bs at))) (placed at (nested (byte_at bs at) os))
+line_says cells bs at os = kinded cells bs at os (kind_of (byte_at bs at))
 
 -- the lines from the byte `at` on, n of them
 abbrev pub lines_fault : ℕ → List ℕ → ℕ → ℕ → List Open → Option ReadFault

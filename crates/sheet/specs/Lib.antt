@@ -3,7 +3,9 @@ pub mod Table
 pub mod Spans
 pub mod Layout
 pub mod Refusals
+pub mod Kinds
 pub mod Checks
+pub mod Parts
 pub mod Nests
 pub mod Results
 pub mod Reading

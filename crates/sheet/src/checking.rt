@@ -1,27 +1,28 @@
 // The checks of a sheet's bytes, in the order of the refusals.
-ghost use Rattle.std.specs.Prelude.{◌≡◌, ℕ, ◌+◌, ◌*◌, ◌<◌, ◌≤◌, ◌&&◌, [], length, Ok, Err, nat_le, nat_lt, slice_index};
+ghost use Rattle.std.specs.Prelude.{◌≡◌, ℕ, ◌+◌, ◌*◌, ◌^◌, ◌<◌, ◌≤◌, ◌&&◌, List, [], length, Ok, Err, not, zip, position, nat_le, nat_lt};
 ghost use Rattle.sheet.specs.Checks.{word_at, header_of, limit_fault, offset_fault, marks_fault, rules_of, obeys, bytes_fault, line_says, lines_fault};
-ghost use Rattle.sheet.specs.Nests.{opens, Held};
-ghost use Rattle.sheet.specs.Results.{found, Bytes};
+ghost use Rattle.sheet.specs.Parts.{IsLineAt};
+ghost use Rattle.sheet.specs.Nests.{opens};
+ghost use Rattle.sheet.specs.Results.{found};
 
 use crate::faults::ReadFault;
 use crate::headers::Header;
+use crate::kinds::LineKind;
 use crate::nesting::Nest;
+use crate::parts::line_bytes;
 use crate::rules::Rule;
 
 // The number that two bytes spell, the lower first.
 fn word(bytes: &[u8], at: usize) -> usize
     requires { at + 1 < length bytes.now }
-    ensures value { result ≡ word_at bytes.now at }
-    ensures bytes { Bytes bytes.now }
+    ensures { result ≡ word_at bytes.now at }
 {
-    usize::from(bytes[at]) + 256 * usize::from(bytes[at + 1])
+    usize::from(u16::from_le_bytes([bytes[at], bytes[at + 1]]))
 }
 
 pub(crate) fn header(bytes: &[u8]) -> Header
     requires { 14 ≤ length bytes.now }
-    ensures value { result ≡ header_of bytes.now }
-    ensures bytes { Bytes bytes.now }
+    ensures { result ≡ header_of bytes.now }
 {
     Header {
         cells: word(bytes, 0),
@@ -68,61 +69,17 @@ pub(crate) fn check_offsets(bytes: &[u8], h: Header) -> Result<(), ReadFault>
     Ok(())
 }
 
-// What each byte of a line of this kind may be.
-fn rules(kind: u8) -> [Rule; 8]
+// What each byte of a line of this kind may be, after the byte that names the kind.
+fn rules(kind: LineKind) -> [Rule; 7]
     ensures { result ≡ rules_of kind }
 {
+    use Rule::{Any, Bound, Cell, Operation, Zero};
     match kind {
-        1 => [
-            Rule::Kind,
-            Rule::Cell,
-            Rule::Operation,
-            Rule::Cell,
-            Rule::Cell,
-            Rule::Zero,
-            Rule::Zero,
-            Rule::Zero,
-        ],
-        2 => [
-            Rule::Kind,
-            Rule::Cell,
-            Rule::Zero,
-            Rule::Zero,
-            Rule::Any,
-            Rule::Any,
-            Rule::Any,
-            Rule::Any,
-        ],
-        3 => [
-            Rule::Kind,
-            Rule::Cell,
-            Rule::Zero,
-            Rule::Zero,
-            Rule::Zero,
-            Rule::Zero,
-            Rule::Zero,
-            Rule::Zero,
-        ],
-        6 => [
-            Rule::Kind,
-            Rule::Cell,
-            Rule::Bound,
-            Rule::Zero,
-            Rule::Zero,
-            Rule::Zero,
-            Rule::Zero,
-            Rule::Zero,
-        ],
-        _ => [
-            Rule::Kind,
-            Rule::Zero,
-            Rule::Zero,
-            Rule::Zero,
-            Rule::Zero,
-            Rule::Zero,
-            Rule::Zero,
-            Rule::Zero,
-        ],
+        LineKind::Work => [Cell, Operation, Cell, Cell, Zero, Zero, Zero],
+        LineKind::Literal => [Cell, Zero, Zero, Any, Any, Any, Any],
+        LineKind::If => [Cell, Zero, Zero, Zero, Zero, Zero, Zero],
+        LineKind::Else | LineKind::End => [Zero; 7],
+        LineKind::Loop => [Cell, Bound, Zero, Zero, Zero, Zero, Zero],
     }
 }
 
@@ -130,7 +87,6 @@ fn allowed(cells: usize, rule: Rule, b: u8) -> bool
     ensures { result ≡ obeys cells rule b }
 {
     match rule {
-        Rule::Kind => 1 <= b && b <= 6,
         Rule::Cell => usize::from(b) < cells,
         Rule::Operation => b <= 7,
         Rule::Bound => 1 <= b,
@@ -153,59 +109,62 @@ pub(crate) fn check_marks(bytes: &[u8], h: Header) -> Result<(), ReadFault>
     ensures { found result ≡ marks_fault h.cells bytes.now 0 14 h.marked }
 {
     let mut low = 0;
-    for at in 14..14 + h.marked {
-        let mark = bytes[at];
+    for (i, &mark) in bytes[14..14 + h.marked].iter().enumerate() {
         if !may_follow(mark, low, h.cells) {
-            return Err(ReadFault::Mark { at });
+            return Err(ReadFault::Mark { at: 14 + i });
         }
         low = usize::from(mark) + 1;
     }
     Ok(())
 }
 
-// Each byte of the line at `at` is one that such a line may have.
-fn check_bytes(bytes: &[u8], at: usize, cells: usize) -> Result<(), ReadFault>
-    requires { at + 8 ≤ length bytes.now }
-    ensures { found result ≡ bytes_fault cells bytes.now at (rules_of (slice_index bytes.now at)) }
+// Which of the bytes is the first that its rule does not allow, if there is one.
+fn misfit(rules: [Rule; 7], bytes: &[u8], cells: usize) -> Option<usize>
+    ensures { result ≡ position (λ p. not (obeys cells p.0 p.1)) (zip rules bytes.now) }
 {
-    let row = rules(bytes[at]);
-    for j in 0..8 {
-        if !allowed(cells, row[j], bytes[at + j]) {
-            return Err(ReadFault::Byte { at: at + j });
-        }
-    }
-    Ok(())
+    rules
+        .iter()
+        .zip(bytes)
+        .position(|(&rule, &byte)| !allowed(cells, rule, byte))
 }
 
-// The line at `at` is one that may stand where `nest` is open, which goes past it.
-fn check_line(bytes: &[u8], at: usize, cells: usize, nest: &mut Nest) -> Result<(), ReadFault>
-    requires whole { at + 8 ≤ length bytes.now }
-    requires held { Held nest.old }
-    ensures held { Held nest.new }
-    ensures says { line_says cells bytes.now at (opens nest.old) ≡ elim result [ Ok _ ↦ Ok (opens nest.new) | Err f ↦ Err f ] }
+// The bytes after the first of the line at `at` are such as a line of this kind may have.
+fn check_bytes(line: &[u8; 8], at: usize, kind: LineKind, cells: usize) -> Result<(), ReadFault>
+    requires { at + 8 < 2 ^ 64 }
+    ensures { (bs : List ℕ) → IsLineAt bs at line.now → found result ≡ bytes_fault cells bs (at + 1) (rules_of kind) }
 {
-    check_bytes(bytes, at, cells)?;
-    if nest.pass(bytes[at]) {
-        Ok(())
-    } else {
-        Err(ReadFault::Nesting { at })
+    match misfit(rules(kind), &line[1..], cells) {
+        Some(j) => Err(ReadFault::Byte { at: at + 1 + j }),
+        None => Ok(()),
     }
+}
+
+// What is open after the line at `at`, where it may stand inside of what is open before it.
+fn check_line(line: &[u8; 8], at: usize, cells: usize, nest: Nest) -> Result<Nest, ReadFault>
+    requires { at + 8 < 2 ^ 64 }
+    ensures { (bs : List ℕ) → IsLineAt bs at line.now → line_says cells bs at (opens nest) ≡ elim result [ Ok next ↦ Ok (opens next) | Err f ↦ Err f ] }
+{
+    let Ok(kind) = LineKind::try_from(line[0]) else {
+        return Err(ReadFault::Byte { at });
+    };
+    check_bytes(line, at, kind, cells)?;
+    nest.past(kind).ok_or(ReadFault::Nesting { at })
 }
 
 // Line after line, and nothing is open at the end.
 pub(crate) fn check_lines(bytes: &[u8], h: Header) -> Result<(), ReadFault>
-    requires { 14 + h.marked + 8 * h.lines ≤ length bytes.now }
+    requires { 14 + h.marked + 8 * h.lines ≡ length bytes.now }
     ensures { found result ≡ lines_fault h.cells bytes.now (14 + h.marked) h.lines [] }
 {
+    let first = 14 + h.marked;
+    let lines = line_bytes(bytes, first);
     let mut nest = Nest::new();
-    let mut at = 14 + h.marked;
-    for _ in 0..h.lines {
-        check_line(bytes, at, h.cells, &mut nest)?;
-        at += 8;
+    for (i, line) in lines.iter().enumerate() {
+        nest = check_line(line, first + 8 * i, h.cells, nest)?;
     }
     if nest.is_empty() {
         Ok(())
     } else {
-        Err(ReadFault::Nesting { at })
+        Err(ReadFault::Nesting { at: bytes.len() })
     }
 }

@@ -4,18 +4,19 @@ ghost use Rattle.sheet.specs.Checks.{header_of, sheet_fault, read_fault};
 ghost use Rattle.sheet.specs.Layout.{Program};
 ghost use Rattle.sheet.specs.Reading.{Laid, Taken, Fits, Filled, Reads};
 ghost use Rattle.sheet.specs.Refusals.{place_of};
-ghost use Rattle.sheet.specs.Results.{found, Bytes};
+ghost use Rattle.sheet.specs.Results.{found};
 
 use crate::checking::{check_limits, check_lines, check_marks, check_offsets, header};
 use crate::faults::ReadFault;
 use crate::filling::fill_block;
 use crate::headers::{Header, Sheet};
 use crate::lines::Line;
+use crate::parts::line_bytes;
 
 // Every check of a sheet, in order.
 fn checked(bytes: &[u8]) -> Result<Header, ReadFault>
     ensures first { found result ≡ sheet_fault bytes.now }
-    ensures whole { IfOk result (λ h. (h ≡ header_of bytes.now) × Bytes bytes.now) }
+    ensures whole { IfOk result (λ h. h ≡ header_of bytes.now) }
 {
     if bytes.len() < 14 {
         return Err(ReadFault::Short);
@@ -60,7 +61,7 @@ fn fill(bytes: &[u8], sheet: Sheet<'_>, table: &mut [Line])
     requires { Fits bytes.now (length table.old) (Ok sheet) }
     ensures { (p : Program) → Laid bytes.now p → Filled p table.old table.new }
 {
-    fill_block(bytes, 14 + sheet.marks.len(), sheet.lines, 0, table);
+    fill_block(line_bytes(bytes, 14 + sheet.marks.len()), 0, table);
 }
 
 // Reads a sheet into the line table, which begins with its lines then, or answers the first fault.

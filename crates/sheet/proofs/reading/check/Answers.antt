@@ -16,4 +16,4 @@ returns c =
     let w = c.in_ok-h.ensures.whole in
     let e = c.in_ok-h.ensures.first in
     let n : 14 + h.marked - 14 ≡ h.marked = omega arith in
-    record { first = e; taken = taken c.args.bytes.now h w.0 w.1 e _ refl refl refl (ap (λ y. take y (drop 14 c.args.bytes.now)) n); near = tt }
+    record { first = e; taken = taken c.args.bytes.now h w (λ i. (c.type_inv.bytes i).fits) e _ refl refl refl (ap (λ y. take y (drop 14 c.args.bytes.now)) n); near = tt }
