@@ -1,12 +1,12 @@
 -- What is known of a block that begins with a line, where no more is known of its code than that there is one.
-use Rattle.std.proofs.Common.{◌≡◌, ℕ, ◌+◌, ◌<◌, ◌≤◌, List, length, sym, subst, ap, ◌∙◌, arith}
+use Rattle.std.proofs.Common.{◌≡◌, ℕ, ◌+◌, ◌≤◌, List, sym, subst, ap, ◌∙◌}
 use Rattle.std.proofs.Math.Logic.{∥∥₁_elim, ∥∥₁_prop}
 use Rattle.std.specs.Coded.{le_prop}
 use Rattle.sheet.specs.Code.{Code}
 use Rattle.sheet.specs.Spans.{line_at, Spans, IsCode, end_of}
 use Rattle.sheet.specs.declared.lines.Line.{Line}
-use Rattle.sheet.specs.declared.lines.Line.TheVariants.{Work, Literal, If, Else, End, Loop}
-use Rattle.sheet.proofs.Heads.{AtIf, AtLoop, at_work, at_literal, at_if, at_loop, not_else, not_end}
+use Rattle.sheet.specs.declared.lines.Line.TheVariants.{Work, Literal, If, Loop}
+use Rattle.sheet.proofs.Heads.{AtIf, at_work, at_literal, at_if, at_loop}
 
 module _ (xs : List Line) (i j : ℕ) (more : i ≡ j → ⊥) (some : ∥ IsCode xs i j ∥₁) where
   pub record InPlain : Type 0 where
