@@ -8,3 +8,4 @@ pub mod Nests
 pub mod Results
 pub mod Reading
 pub mod Filling
+pub mod Words
