@@ -1,8 +1,8 @@
-use Rattle.std.proofs.Common.{◌≡◌, ℕ, List, Some, Option, IfOk, string_bytes, codes, decimal, refl, subst, ap, ◌∙◌}
+use Rattle.std.proofs.Common.{◌≡◌, ℕ, List, Some, Option, IfOk, string_bytes, codes, decimal, subst, ap, ◌∙◌}
 use Rattle.std.specs.Prelude.{IfSome}
 use Rattle.std.specs.Fmt.{◌++?◌}
 use Rattle.onepath.specs.Names.{name_of}
-use Rattle.report.specs.Texts.{covered_cells, spaced, spaced_output, path_text}
+use Rattle.report.specs.Texts.{covered_cells, spaced, spaced_output}
 use Rattle.report.proofs.Spacing.{spaced_output-some, spaced_output-numbers}
 use Rattle.report.proofs.path_report.Goals as goal
 

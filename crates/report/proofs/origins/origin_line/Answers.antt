@@ -1,7 +1,7 @@
-use Rattle.std.proofs.Common.{◌≡◌, Some, IfOk, string_bytes, codes, decimal, refl, subst, ap, ◌∙◌}
+use Rattle.std.proofs.Common.{◌≡◌, Some, IfOk, string_bytes, codes, decimal, subst, ap, ◌∙◌}
 use Rattle.std.specs.Prelude.{IfSome}
 use Rattle.std.specs.Fmt.{◌++?◌}
-use Rattle.report.specs.Texts.{member_cells, spaced_output, origin_line}
+use Rattle.report.specs.Texts.{member_cells}
 use Rattle.report.proofs.Spacing.{spaced_output-numbers}
 use Rattle.report.proofs.origins.origin_line.Goals as goal
 

@@ -1,4 +1,4 @@
-use Rattle.std.proofs.Common.{◌≡◌, ◌+◌, ◌<◌, length, take, Some, codes, sym, subst, refl, arith, rules}
+use Rattle.std.proofs.Common.{◌<◌, length, take, Some, codes, sym, subst, arith, rules}
 use Rattle.std.specs.Prelude.{IfSome}
 use Rattle.std.specs.Fmt.{◌++?◌, HasWritten}
 use Rattle.report.specs.Texts.{spaced_output}
