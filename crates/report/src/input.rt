@@ -13,3 +13,17 @@ pub fn read_all<R: Read + Drop>(heap: Global, mut reader: R) -> io::Result<Vec<u
     reader.read_to_end(&mut bytes)?;
     Ok(bytes)
 }
+
+#[cfg(test)]
+mod tests {
+    use super::read_all;
+
+    #[test]
+    fn reads_all(rt: HostRuntime) {
+        let read = read_all(rt.alloc(), &b"sheet"[..]);
+        assert!(rt; read.is_ok());
+        if let Ok(bytes) = read {
+            assert!(rt; bytes.as_slice() == b"sheet");
+        }
+    }
+}
