@@ -20,10 +20,9 @@ mod tests {
 
     #[test]
     fn reads_all(rt: HostRuntime) {
-        let read = read_all(rt.alloc(), &b"sheet"[..]);
-        assert!(rt; read.is_ok());
-        if let Ok(bytes) = read {
-            assert!(rt; bytes.as_slice() == b"sheet");
+        match read_all(rt.alloc(), &b"sheet"[..]) {
+            Ok(bytes) => assert!(rt; bytes.as_slice() == b"sheet".as_slice()),
+            Err(_) => assert!(rt; false),
         }
     }
 }
