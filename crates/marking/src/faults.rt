@@ -1,9 +1,10 @@
 // Why a sheet is not marked.
 ghost use Rattle.std.specs.Prelude.{◌≡◌};
+ghost use Rattle.std.proofs.Common.{rules};
 ghost use Rattle.marking.specs.Refusals.{number_of, place_of, layer_of};
 ghost use Rattle.marking.specs.declared.faults.MarkFault.TheVariants.{Read};
 
-use sheet::{Layer, ReadFault};
+use sheet::{Fault, Layer, ReadFault};
 
 #[derive(Clone, Copy)]
 pub enum MarkFault {
@@ -21,28 +22,30 @@ impl From<ReadFault> for MarkFault {
     }
 }
 
-impl MarkFault {
-    pub fn number(&self) -> u32
-        ensures { result ≡ number_of self.now }
-    {
+impl Fault for MarkFault {
+    ghost numbered = { number_of };
+
+    ghost placed = { place_of };
+
+    ghost found_in = { layer_of };
+
+    ghost counted = { Prim.search rules };
+
+    fn number(&self) -> u32 {
         match *self {
             MarkFault::Read(fault) => fault.number(),
             MarkFault::Table => 7,
         }
     }
 
-    pub fn place(&self) -> usize
-        ensures { result ≡ place_of self.now }
-    {
+    fn place(&self) -> usize {
         match *self {
             MarkFault::Read(fault) => fault.place(),
             MarkFault::Table => 2,
         }
     }
 
-    pub fn layer(&self) -> Layer
-        ensures { result ≡ layer_of self.now }
-    {
+    fn layer(&self) -> Layer {
         match *self {
             MarkFault::Read(fault) => fault.layer(),
             MarkFault::Table => Layer::Marking,

@@ -1,10 +1,11 @@
 // Why a sheet is not converted.
 ghost use Rattle.std.specs.Prelude.{◌≡◌};
+ghost use Rattle.std.proofs.Common.{rules};
 ghost use Rattle.onepath.specs.Refusals.{number_of, place_of, layer_of};
 ghost use Rattle.onepath.specs.declared.faults.ConvertFault.TheVariants.{Mark};
 
 use marking::MarkFault;
-use sheet::Layer;
+use sheet::{Fault, Layer};
 
 #[derive(Clone, Copy)]
 pub enum ConvertFault {
@@ -22,28 +23,30 @@ impl From<MarkFault> for ConvertFault {
     }
 }
 
-impl ConvertFault {
-    pub fn number(&self) -> u32
-        ensures { result ≡ number_of self.now }
-    {
+impl Fault for ConvertFault {
+    ghost numbered = { number_of };
+
+    ghost placed = { place_of };
+
+    ghost found_in = { layer_of };
+
+    ghost counted = { Prim.search rules };
+
+    fn number(&self) -> u32 {
         match *self {
             ConvertFault::Mark(fault) => fault.number(),
             ConvertFault::Table => 7,
         }
     }
 
-    pub fn place(&self) -> usize
-        ensures { result ≡ place_of self.now }
-    {
+    fn place(&self) -> usize {
         match *self {
             ConvertFault::Mark(fault) => fault.place(),
             ConvertFault::Table => 3,
         }
     }
 
-    pub fn layer(&self) -> Layer
-        ensures { result ≡ layer_of self.now }
-    {
+    fn layer(&self) -> Layer {
         match *self {
             ConvertFault::Mark(fault) => fault.layer(),
             ConvertFault::Table => Layer::Conversion,

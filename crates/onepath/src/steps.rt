@@ -1,6 +1,8 @@
 // The steps of one path.
-ghost use Rattle.std.specs.Prelude.{◌≡◌};
+ghost use Rattle.std.specs.Prelude.{◌≡◌, Some};
 ghost use Rattle.onepath.specs.Names.{name_of};
+
+use std::fmt;
 
 // A level has a guard, and that of level 0 always holds. A work or literal step takes effect where the guard of its
 // line's level holds; the other steps with a level have a covered construct's own, whose guard they set. `to` is the
@@ -92,5 +94,13 @@ impl Step {
             Step::Enter { .. } => "enter",
             Step::Test { .. } => "test",
         }
+    }
+}
+
+impl fmt::Display for Step {
+    ghost output = { λ s. Some (name_of s) };
+
+    fn fmt<W: fmt::Write>(&self, f: &mut fmt::Formatter<W>) -> fmt::Result {
+        f.write_str(self.name())
     }
 }

@@ -5,7 +5,7 @@ ghost use Rattle.std.specs.Prelude.{◌≡◌};
 ghost use Rattle.sheet.specs.Checks.{sheet_fault};
 ghost use Rattle.phone.specs.Answers.{answer_of, Sure};
 
-use sheet::check;
+use sheet::{Fault, check};
 
 // 0 for a sheet that can be read, else the number of its first fault plus 256 times the fault's place.
 #[unsafe(no_mangle)]

@@ -3,6 +3,7 @@ ghost use Rattle.std.specs.Prelude.{◌≡◌};
 ghost use Rattle.protocol.specs.Numbers.{ending_number, ending_line, score_number, walk_numbers, refusal_of, numbers_of};
 
 use crate::refusals::Refusal;
+use sheet::Fault;
 
 // What a run of a sheet comes to, as it is told.
 #[derive(Clone, Copy, PartialEq, Debug)]

@@ -1,6 +1,10 @@
 // Why a round refuses a call.
 ghost use Rattle.std.specs.Prelude.{◌≡◌};
+ghost use Rattle.std.proofs.Common.{rules};
+ghost use Rattle.sheet.specs.declared.faults.Layer.TheVariants.{Playing};
 ghost use Rattle.protocol.specs.Numbers.{number_of, place_of};
+
+use sheet::{Fault, Layer};
 
 #[derive(Clone, Copy, PartialEq, Debug)]
 pub enum Refusal {
@@ -22,10 +26,17 @@ pub enum Refusal {
     Early,
 }
 
-impl Refusal {
-    pub fn number(&self) -> u32
-        ensures { result ≡ number_of self.now }
-    {
+// It is found while the round is played.
+impl Fault for Refusal {
+    ghost numbered = { number_of };
+
+    ghost placed = { place_of };
+
+    ghost found_in = { λ _. Playing };
+
+    ghost counted = { Prim.search rules };
+
+    fn number(&self) -> u32 {
         match *self {
             Refusal::SetterCells | Refusal::WorkingCells => 8,
             Refusal::NoCell { cell: _ } => 10,
@@ -36,9 +47,7 @@ impl Refusal {
         }
     }
 
-    pub fn place(&self) -> usize
-        ensures { result ≡ place_of self.now }
-    {
+    fn place(&self) -> usize {
         match *self {
             Refusal::SetterCells => 1,
             Refusal::WorkingCells => 2,
@@ -47,5 +56,9 @@ impl Refusal {
             Refusal::Covered { cell } => cell,
             Refusal::Phase | Refusal::NoTries | Refusal::Early => 0,
         }
+    }
+
+    fn layer(&self) -> Layer {
+        Layer::Playing
     }
 }

@@ -1,2 +1,3 @@
 mod Growing
+mod Spacing
 mod Telling

@@ -12,7 +12,7 @@ use Rattle.onepath.specs.Cover.{covered_in}
 use Rattle.onepath.specs.Listed.{steps_of}
 use Rattle.onepath.specs.Refusals.{convert_fault, number_of, place_of}
 use Rattle.onepath.specs.declared.faults.ConvertFault.{ConvertFault}
-use Rattle.report.specs.Texts.{refusal_text, path_text, origin_lines}
+use Rattle.report.specs.Texts.{refusal_line, path_text, origin_lines}
 
 -- the covered cells, which are the least set that the rules allow, and the steps
 pub record Tells (bs text : List ℕ) : Type 0 where
@@ -25,7 +25,7 @@ pub record Tells (bs text : List ℕ) : Type 0 where
 
 -- a sheet's first fault, where it has one
 abbrev pub ReportsOf : Option ConvertFault → List ℕ → List ℕ → Type 0
-ReportsOf (Some f) bs text = text ≡ refusal_text (number_of f) (place_of f)
+ReportsOf (Some f) bs text = text ≡ refusal_line (number_of f) (place_of f)
 ReportsOf None bs text = Tells bs text
 
 abbrev pub Reports : List ℕ → List ℕ → Type 0
@@ -41,7 +41,7 @@ pub record TellsOrigins (bs text : List ℕ) : Type 0 where
   pub says : text ≡ origin_lines 0 origins
 
 abbrev pub OriginsOf : Option MarkFault → List ℕ → List ℕ → Type 0
-OriginsOf (Some f) bs text = text ≡ refusal_text (mark_number f) (mark_place f)
+OriginsOf (Some f) bs text = text ≡ refusal_line (mark_number f) (mark_place f)
 OriginsOf None bs text = TellsOrigins bs text
 
 abbrev pub ReportsOrigins : List ℕ → List ℕ → Type 0

@@ -1,41 +1,41 @@
 -- The lines that are printed of a sheet.
-use Rattle.std.specs.Prelude.{ℕ, zero, suc, ◌+◌, ◌/◌, ◌%◌, ◌^◌, Bool, true, false, cond, List, [], ◌∷◌, ◌++◌, codes, decimal, ◌==◌}
+use Rattle.std.specs.Prelude.{ℕ, ◌+◌, ◌/◌, ◌%◌, ◌^◌, Bool, List, [], ◌∷◌, ◌++◌, Some, Option, map, filter, codes, decimal, ◌==◌}
+use Rattle.std.specs.Fmt.{◌++?◌}
+use Rattle.std.specs.List.{enumerate_from, range_with_len}
+use Rattle.sheet.specs.Words.{refusal_text}
 use Rattle.marking.specs.declared.origins.Origins.{Origins}
 use Rattle.onepath.specs.Names.{name_of}
 use Rattle.onepath.specs.declared.steps.Step.{Step}
 
-abbrev pub refusal_text : ℕ → ℕ → List ℕ
-refusal_text number place = codes "refused " ++ (decimal number ++ (codes " at " ++ (decimal place ++ codes "\n")))
+abbrev pub refusal_line : ℕ → ℕ → List ℕ
+refusal_line number place = refusal_text number place ++ codes "\n"
 
--- the cells from i on whose mark is yes, each after a space
-abbrev pub covered_from : ℕ → List Bool → List ℕ
-covered_from i [] = []
-covered_from i (true ∷ ms) = (codes " " ++ decimal i) ++ covered_from (i + 1) ms
-covered_from i (false ∷ ms) = covered_from (i + 1) ms
+-- each item after a space
+abbrev pub spaced : {A : Type 0} → (A → List ℕ) → List A → List ℕ
+spaced words [] = []
+spaced words (x ∷ xs) = codes " " ++ (words x ++ spaced words xs)
 
-abbrev pub covered_text : List Bool → List ℕ
-covered_text marks = codes "covered" ++ covered_from 0 marks
+-- the same of what items print, where each says what it prints
+abbrev pub spaced_output : {A : Type 0} → (A → Option (List ℕ)) → List A → Option (List ℕ)
+spaced_output output [] = Some []
+spaced_output output (x ∷ xs) = Some (codes " ") ++? (output x ++? spaced_output output xs)
 
--- the names of the steps, each after a space
-abbrev pub step_names : List Step → List ℕ
-step_names [] = []
-step_names (s ∷ ss) = codes " " ++ (name_of s ++ step_names ss)
+-- the cells whose mark is yes
+abbrev pub covered_cells : List Bool → List ℕ
+covered_cells marks = map (λ c. c.0) (filter (λ c. c.1) (enumerate_from 0 marks))
 
-abbrev pub steps_text : List Step → List ℕ
-steps_text steps = codes "steps" ++ step_names steps
-
+-- a line that names the covered cells, and one that names the steps
 abbrev pub path_text : List Bool → List Step → List ℕ
-path_text marks steps = covered_text marks ++ (codes "\n" ++ (steps_text steps ++ codes "\n"))
+path_text marks steps = codes "covered" ++ (spaced decimal (covered_cells marks) ++ (codes "\nsteps" ++ (spaced name_of steps ++ codes "\n")))
 
--- the cells of a set, from i up to i + n, each after a space
-abbrev pub member_names : ℕ → ℕ → ℕ → List ℕ
-member_names members i zero = []
-member_names members i (suc n) = cond (members / 2 ^ i % 2 == 1) (codes " " ++ decimal i) [] ++ member_names members (i + 1) n
+-- the cells of a set
+abbrev pub member_cells : ℕ → List ℕ
+member_cells members = filter (λ cell. members / 2 ^ cell % 2 == 1) (range_with_len 0 64)
 
-abbrev pub origin_text : ℕ → Origins → List ℕ
-origin_text cell s = (codes "cell " ++ (decimal cell ++ codes ":")) ++ member_names s.members 0 64
+abbrev pub origin_line : ℕ → Origins → List ℕ
+origin_line cell s = codes "cell " ++ (decimal cell ++ (codes ":" ++ (spaced decimal (member_cells s.members) ++ codes "\n")))
 
 -- a line for each cell, from i on
 abbrev pub origin_lines : ℕ → List Origins → List ℕ
 origin_lines i [] = []
-origin_lines i (s ∷ ss) = origin_text i s ++ (codes "\n" ++ origin_lines (i + 1) ss)
+origin_lines i (s ∷ ss) = origin_line i s ++ origin_lines (i + 1) ss

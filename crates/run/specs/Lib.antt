@@ -4,3 +4,4 @@ pub mod Machine
 pub mod Moves
 pub mod Refusals
 pub mod Judging
+pub mod Words

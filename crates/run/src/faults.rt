@@ -1,9 +1,10 @@
 // Why a sheet is not run.
 ghost use Rattle.std.specs.Prelude.{◌≡◌};
+ghost use Rattle.std.proofs.Common.{rules};
 ghost use Rattle.run.specs.Refusals.{number_of, place_of, layer_of};
 ghost use Rattle.run.specs.declared.faults.RunFault.TheVariants.{Read};
 
-use sheet::{Layer, ReadFault};
+use sheet::{Fault, Layer, ReadFault};
 
 #[derive(Clone, Copy)]
 pub enum RunFault {
@@ -21,28 +22,30 @@ impl From<ReadFault> for RunFault {
     }
 }
 
-impl RunFault {
-    pub fn number(&self) -> u32
-        ensures { result ≡ number_of self.now }
-    {
+impl Fault for RunFault {
+    ghost numbered = { number_of };
+
+    ghost placed = { place_of };
+
+    ghost found_in = { layer_of };
+
+    ghost counted = { Prim.search rules };
+
+    fn number(&self) -> u32 {
         match *self {
             RunFault::Read(fault) => fault.number(),
             RunFault::Cells => 8,
         }
     }
 
-    pub fn place(&self) -> usize
-        ensures { result ≡ place_of self.now }
-    {
+    fn place(&self) -> usize {
         match *self {
             RunFault::Read(fault) => fault.place(),
             RunFault::Cells => 1,
         }
     }
 
-    pub fn layer(&self) -> Layer
-        ensures { result ≡ layer_of self.now }
-    {
+    fn layer(&self) -> Layer {
         match *self {
             RunFault::Read(fault) => fault.layer(),
             RunFault::Cells => Layer::Running,

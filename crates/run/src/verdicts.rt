@@ -1,11 +1,13 @@
 // What a run of a sheet comes to.
-ghost use Rattle.std.specs.Prelude.{◌≡◌, map};
+ghost use Rattle.std.specs.Prelude.{◌≡◌, map, Some};
 ghost use Rattle.run.specs.Judging.{verdict_by, path_verdict};
 ghost use Rattle.run.specs.Machine.{state_of};
 ghost use Rattle.run.specs.Values.{kind_of};
+ghost use Rattle.run.specs.Words.{verdict_text};
 
 use crate::cells::cell;
 use crate::track::Track;
+use std::fmt;
 use value::Value;
 
 #[derive(Clone, Copy)]
@@ -16,6 +18,18 @@ pub enum Verdict {
     Wrong,
     // The run broke at the loop of this line.
     Void { line: usize },
+}
+
+impl fmt::Display for Verdict {
+    ghost output = { λ v. Some (verdict_text v) };
+
+    fn fmt<W: fmt::Write>(&self, f: &mut fmt::Formatter<W>) -> fmt::Result {
+        match *self {
+            Verdict::Right => f.write_str("right"),
+            Verdict::Wrong => f.write_str("wrong"),
+            Verdict::Void { line } => write!(f, "void at {line}"),
+        }
+    }
 }
 
 // Void if a line is blamed, else by the verdict cell.

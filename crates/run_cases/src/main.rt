@@ -2,12 +2,12 @@
 // a name, the kind of values, the number of cells, each cell's value, and the sheet's bytes in hexadecimal.
 #![tactic(auto)]
 
-use anyhow::Context;
+use anyhow::{Context, ensure};
 use onepath::{Step, convert};
 use run::{Registers, RunFault, Track, Verdict, judge, path_verdict, run_steps};
-use sheet::Line;
+use sheet::{Line, Refused};
 use std::alloc::{AllocError, Global};
-use std::io::Read;
+use std::io;
 use value::{Candidates, Number, Value};
 
 // The cells and the sheet of a case.
@@ -21,31 +21,20 @@ struct Case {
 fn read_case(heap: Global, text: &str) -> anyhow::Result<Case> {
     let mut words = text.split_whitespace();
     let count = words.next().context("no cells")?.parse::<usize>()?;
-    let mut cells = Vec::new(heap);
-    for _ in 0..count {
-        cells.push(words.next().context("a cell is missing")?.parse::<u32>()?)?;
-    }
-    let mut bytes = Vec::new(heap);
-    for word in words {
-        bytes.push(u8::from_str_radix(word, 16)?)?;
-    }
+    let cells = words
+        .by_ref()
+        .take(count)
+        .map(|word| -> anyhow::Result<u32> { Ok(word.parse::<u32>()?) })
+        .try_collect::<Vec<u32>>(heap)?;
+    ensure!(cells.len() == count, "a cell is missing");
+    let bytes = words
+        .map(|word| -> anyhow::Result<u8> { Ok(u8::from_str_radix(word, 16)?) })
+        .try_collect::<Vec<u8>>(heap)?;
     Ok(Case { cells, bytes })
 }
 
-fn verdict_words(heap: Global, verdict: Verdict) -> Result<String, AllocError> {
-    match verdict {
-        Verdict::Right => format!(in heap; "right"),
-        Verdict::Wrong => format!(in heap; "wrong"),
-        Verdict::Void { line } => format!(in heap; "void at {line}"),
-    }
-}
-
 fn cells_of<V: Value>(heap: Global, case: &Case) -> Result<Vec<V>, AllocError> {
-    let mut cells = Vec::new(heap);
-    for &n in case.cells.as_slice() {
-        cells.push(V::literal(n))?;
-    }
-    Ok(cells)
+    case.cells.iter().map(|&n| V::literal(n)).collect(heap)
 }
 
 // What the branching run comes to.
@@ -71,29 +60,23 @@ fn one_path<V: Value>(heap: Global, case: &Case) -> Result<String, AllocError> {
         broken: None,
     };
     let taken = run_steps(&mut track, &steps[0..path.steps], &mut cells, 4000000000);
-    let verdict = verdict_words(heap, path_verdict(&track, &cells, path.sheet.verdict))?;
+    let verdict = path_verdict(&track, &cells, path.sheet.verdict);
     format!(in heap; "{verdict} after {taken} steps")
 }
 
 fn both<V: Value>(heap: Global, case: &Case) -> Result<String, AllocError> {
     match branching::<V>(heap, case)? {
         Ok(verdict) => {
-            let first = verdict_words(heap, verdict)?;
-            let second = one_path::<V>(heap, case)?;
-            format!(in heap; "branching {first}, one path {second}")
+            let path = one_path::<V>(heap, case)?;
+            format!(in heap; "branching {verdict}, one path {path}")
         }
-        Err(fault) => {
-            let number = fault.number();
-            let place = fault.place();
-            format!(in heap; "refused {number} at {place}")
-        }
+        Err(fault) => Refused(fault).to_string(heap),
     }
 }
 
 fn main(rt: HostRuntime) -> anyhow::Result<()> {
     let heap = rt.alloc();
-    let mut table = String::new(heap);
-    rt.stdin().read_to_string(&mut table)?;
+    let table = io::read_to_string(heap, rt.stdin())?;
     for line in table.lines() {
         let (name, rest) = line.split_once(' ').context("no case")?;
         let (kind, rest) = rest.split_once(' ').context("no kind")?;

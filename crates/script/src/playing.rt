@@ -8,7 +8,7 @@ use crate::watching::Shown;
 use onepath::Step;
 use protocol::{Answer, Call};
 use session::{PlayFault, play_list, play_pair};
-use sheet::Line;
+use sheet::{Fault, Line};
 use std::alloc::{AllocError, Global};
 use value::{Candidates, Number, Value};
 use watch::{Allowance, Roll, Tally, Watcher};

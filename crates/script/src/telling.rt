@@ -5,6 +5,7 @@ ghost use Rattle.protocol.specs.declared.answers.Ending.TheVariants.{Broken};
 ghost use Rattle.script.specs.Texts.{refusal_text, score_text, walk_text, answer_text, cards_text};
 
 use protocol::{Advanced, Answer, Ending, Score};
+use sheet::Fault;
 use std::alloc::{AllocError, Global};
 
 pub fn refusal_text(heap: Global, number: u32, place: usize) -> Result<String, AllocError>

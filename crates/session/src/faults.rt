@@ -1,11 +1,12 @@
 // Why a round is not opened.
 ghost use Rattle.std.specs.Prelude.{◌≡◌};
+ghost use Rattle.std.proofs.Common.{rules};
 ghost use Rattle.session.specs.Refusals.{number_of, place_of, layer_of, play_number, play_place, play_layer};
 ghost use Rattle.session.specs.declared.faults.OpenFault.TheVariants.{Convert};
 ghost use Rattle.session.specs.declared.faults.PlayFault.TheVariants.{Open};
 
 use onepath::ConvertFault;
-use sheet::Layer;
+use sheet::{Fault, Layer};
 
 #[derive(Clone, Copy)]
 pub enum OpenFault {
@@ -27,10 +28,16 @@ impl From<ConvertFault> for OpenFault {
     }
 }
 
-impl OpenFault {
-    pub fn number(&self) -> u32
-        ensures { result ≡ number_of self.now }
-    {
+impl Fault for OpenFault {
+    ghost numbered = { number_of };
+
+    ghost placed = { place_of };
+
+    ghost found_in = { layer_of };
+
+    ghost counted = { Prim.search rules };
+
+    fn number(&self) -> u32 {
         match *self {
             OpenFault::Convert(fault) => fault.number(),
             OpenFault::SetterCells | OpenFault::WorkingCells => 8,
@@ -38,9 +45,7 @@ impl OpenFault {
         }
     }
 
-    pub fn place(&self) -> usize
-        ensures { result ≡ place_of self.now }
-    {
+    fn place(&self) -> usize {
         match *self {
             OpenFault::Convert(fault) => fault.place(),
             OpenFault::SetterCells => 1,
@@ -49,9 +54,7 @@ impl OpenFault {
         }
     }
 
-    pub fn layer(&self) -> Layer
-        ensures { result ≡ layer_of self.now }
-    {
+    fn layer(&self) -> Layer {
         match *self {
             OpenFault::Convert(fault) => fault.layer(),
             _ => Layer::Opening,
@@ -76,28 +79,30 @@ impl From<OpenFault> for PlayFault {
     }
 }
 
-impl PlayFault {
-    pub fn number(&self) -> u32
-        ensures { result ≡ play_number self.now }
-    {
+impl Fault for PlayFault {
+    ghost numbered = { play_number };
+
+    ghost placed = { play_place };
+
+    ghost found_in = { play_layer };
+
+    ghost counted = { Prim.search rules };
+
+    fn number(&self) -> u32 {
         match *self {
             PlayFault::Open(fault) => fault.number(),
             PlayFault::Answers => 7,
         }
     }
 
-    pub fn place(&self) -> usize
-        ensures { result ≡ play_place self.now }
-    {
+    fn place(&self) -> usize {
         match *self {
             PlayFault::Open(fault) => fault.place(),
             PlayFault::Answers => 4,
         }
     }
 
-    pub fn layer(&self) -> Layer
-        ensures { result ≡ play_layer self.now }
-    {
+    fn layer(&self) -> Layer {
         match *self {
             PlayFault::Open(fault) => fault.layer(),
             PlayFault::Answers => Layer::Playing,

@@ -11,3 +11,4 @@ pub mod Results
 pub mod Reading
 pub mod Filling
 pub mod Blocks
+pub mod Words

@@ -1,6 +1,9 @@
 // Why a sheet is not read. `at` is the byte, counted from the sheet's start, that is the refusal's place.
 ghost use Rattle.std.specs.Prelude.{◌≡◌};
+ghost use Rattle.std.proofs.Common.{rules};
 ghost use Rattle.sheet.specs.Refusals.{number_of, place_of, layer_of};
+
+use crate::fault_kinds::Fault;
 
 #[derive(Clone, Copy)]
 pub enum ReadFault {
@@ -31,10 +34,16 @@ pub enum Layer {
     Playing,
 }
 
-impl ReadFault {
-    pub fn number(&self) -> u32
-        ensures { result ≡ number_of self.now }
-    {
+impl Fault for ReadFault {
+    ghost numbered = { number_of };
+
+    ghost placed = { place_of };
+
+    ghost found_in = { layer_of };
+
+    ghost counted = { Prim.search rules };
+
+    fn number(&self) -> u32 {
         match *self {
             ReadFault::Short => 1,
             ReadFault::Limit { .. } => 2,
@@ -46,9 +55,7 @@ impl ReadFault {
         }
     }
 
-    pub fn place(&self) -> usize
-        ensures { result ≡ place_of self.now }
-    {
+    fn place(&self) -> usize {
         match *self {
             ReadFault::Short => 0,
             ReadFault::Limit { at } => at,
@@ -60,9 +67,7 @@ impl ReadFault {
         }
     }
 
-    pub fn layer(&self) -> Layer
-        ensures { result ≡ layer_of self.now }
-    {
+    fn layer(&self) -> Layer {
         Layer::Reading
     }
 }

@@ -3,6 +3,7 @@
 
 mod block;
 mod checking;
+mod fault_kinds;
 mod faults;
 mod filling;
 mod headers;
@@ -11,13 +12,16 @@ mod laws;
 mod lines;
 mod nesting;
 mod parts;
+mod printing;
 mod reading;
 mod rules;
 mod walking;
 
 pub use block::{Block, Construct};
+pub use fault_kinds::Fault;
 pub use faults::{Layer, ReadFault};
 pub use headers::Sheet;
 pub use laws::one_program_stands;
 pub use lines::Line;
+pub use printing::Refused;
 pub use reading::{check, check_table, read};

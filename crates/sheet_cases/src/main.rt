@@ -3,10 +3,10 @@
 #![tactic(auto)]
 
 use anyhow::Context;
-use onepath::{ConvertFault, Step, convert};
-use sheet::{Layer, Line};
+use onepath::{Step, convert};
+use sheet::{Fault, Line, Refused};
 use std::alloc::{AllocError, Global};
-use std::io::Read;
+use std::io;
 
 // The table lengths and the sheet of a case.
 #[derive(Drop)]
@@ -17,27 +17,15 @@ struct Case {
     bytes: Vec<u8>,
 }
 
-fn layer_name(fault: ConvertFault) -> &'static str {
-    match fault.layer() {
-        Layer::Reading => "reading",
-        Layer::Marking => "marking",
-        Layer::Conversion => "conversion",
-        Layer::Running => "running",
-        Layer::Opening => "opening",
-        Layer::Playing => "playing",
-    }
-}
-
 // The words after a case's name.
 fn read_case(heap: Global, text: &str) -> anyhow::Result<Case> {
     let mut words = text.split_whitespace();
     let lines = words.next().context("no line table")?.parse::<usize>()?;
     let marks = words.next().context("no mark table")?.parse::<usize>()?;
     let steps = words.next().context("no step table")?.parse::<usize>()?;
-    let mut bytes = Vec::new(heap);
-    for word in words {
-        bytes.push(u8::from_str_radix(word, 16)?)?;
-    }
+    let bytes = words
+        .map(|word| -> anyhow::Result<u8> { Ok(u8::from_str_radix(word, 16)?) })
+        .try_collect::<Vec<u8>>(heap)?;
     Ok(Case {
         lines,
         marks,
@@ -56,18 +44,16 @@ fn outcome(heap: Global, case: &Case) -> Result<String, AllocError> {
             format!(in heap; "{count} steps")
         }
         Err(fault) => {
-            let number = fault.number();
-            let place = fault.place();
-            let layer = layer_name(fault);
-            format!(in heap; "refused {number} at {place} in {layer}")
+            let refused = Refused(fault);
+            let layer = fault.layer();
+            format!(in heap; "{refused} in {layer}")
         }
     }
 }
 
 fn main(rt: HostRuntime) -> anyhow::Result<()> {
     let heap = rt.alloc();
-    let mut table = String::new(heap);
-    rt.stdin().read_to_string(&mut table)?;
+    let table = io::read_to_string(heap, rt.stdin())?;
     for line in table.lines() {
         let (name, rest) = line.split_once(' ').context("no case")?;
         let case = read_case(heap, rest)?;

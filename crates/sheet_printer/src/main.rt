@@ -1,14 +1,11 @@
 // Prints the covered cells and the steps of the sheet on standard input.
 #![tactic(auto)]
 
-use report::sheet_report;
+use report::{read_all, sheet_report};
 use std::io;
-use std::io::Read;
 
 fn main(rt: HostRuntime) -> io::Result<()> {
     let heap = rt.alloc();
-    let mut bytes = Vec::new(heap);
-    rt.stdin().read_to_end(&mut bytes)?;
-    let text = sheet_report(heap, bytes.as_slice())?;
-    rt.print(text)
+    let bytes = read_all(heap, rt.stdin())?;
+    rt.print(sheet_report(heap, bytes.as_slice())?)
 }

@@ -1,21 +1,19 @@
-use Rattle.std.proofs.Common.{◌≡◌, ◌<◌, ◌++◌, length, get_or, string_bytes, codes, refl, ap, ◌∙◌, arith}
+use Rattle.std.proofs.Common.{◌≡◌, ◌<◌, ◌++◌, length, get_or, string_bytes, ap, ◌∙◌, arith}
 use Rattle.std.proofs.lemmas.List.{drop_all, get_or_read}
-use Rattle.report.specs.Texts.{origin_text, origin_lines}
+use Rattle.report.specs.Texts.{origin_line, origin_lines}
 use Rattle.marking.specs.Sets.{no_origins}
 use Rattle.report.proofs.Growing.{line_more, whole}
 use Rattle.report.proofs.origins.origin_lines.Goals as goal
-
-pub loop-cell-init : goal.loop-cell-init
-loop-cell-init c = ap (λ y. y ++ origin_lines 0 c.args.sets.now) c.new-text.ensures.bytes
 
 pub loop-cell-preserved : goal.loop-cell-preserved
 loop-cell-preserved c =
     let i = c.loop-cell.cell in
     let ss = c.args.sets.now in
+    let t = string_bytes c.loop-cell.text in
     let more : i < length ss = omega arith in
     let set : c.index-sets-cell.result ≡ get_or ss i no_origins = get_or_read ss i c.index-sets-cell.result more c.index-sets-cell.is no_origins in
-    line_more (string_bytes c.loop-cell.text) (string_bytes c.push_str.new.self) (string_bytes c.push_str-in-loop-cell.new.self) c.as_str.result.now (codes "\n") ss i more
-    (c.as_str.ensures.value ∙ c.in_ok-line.ensures ∙ ap (origin_text i) set) c.in_ok-push_str.ensures.bytes refl c.in_ok-push_str-2.ensures.bytes ∙ c.loop-cell.invariant
+    line_more t (string_bytes c.push_str.new.self) ss i more
+    (c.in_ok-push_str.ensures.bytes ∙ ap (λ y. t ++ y) (c.as_str.ensures.value ∙ c.in_ok-line.ensures ∙ ap (origin_line i) set)) ∙ c.loop-cell.invariant
 
 pub returns : goal.returns
 returns c =
