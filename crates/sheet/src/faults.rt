@@ -3,7 +3,7 @@ ghost use Rattle.std.specs.Prelude.{◌≡◌};
 ghost use Rattle.std.proofs.Common.{rules};
 ghost use Rattle.sheet.specs.Refusals.{number_of, place_of, layer_of};
 
-use crate::kinds::Fault;
+use crate::fault_kinds::Fault;
 
 #[derive(Clone, Copy)]
 pub enum ReadFault {

@@ -2,10 +2,10 @@
 #![tactic(auto)]
 
 mod checking;
+mod fault_kinds;
 mod faults;
 mod filling;
 mod headers;
-mod kinds;
 mod laws;
 mod lines;
 mod moves;
@@ -14,9 +14,9 @@ mod printing;
 mod reading;
 mod rules;
 
+pub use fault_kinds::Fault;
 pub use faults::{Layer, ReadFault};
 pub use headers::Sheet;
-pub use kinds::Fault;
 pub use laws::one_program_stands;
 pub use lines::Line;
 pub use printing::Refused;

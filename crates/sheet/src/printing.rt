@@ -2,8 +2,8 @@
 ghost use Rattle.std.specs.Prelude.{Some};
 ghost use Rattle.sheet.specs.Words.{refusal_text, layer_text};
 
+use crate::fault_kinds::Fault;
 use crate::faults::Layer;
-use crate::kinds::Fault;
 use std::fmt;
 
 // What was refused, by the fault's number and place.
