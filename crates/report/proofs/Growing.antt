@@ -1,13 +1,9 @@
 -- A text that grows by one item after another.
-use Rattle.std.proofs.Common.{◌≡◌, ℕ, ◌+◌, ◌<◌, List, [], ◌++◌, length, get_or, drop, sym, ap, ◌∙◌}
-use Rattle.std.proofs.lemmas.List.{append_assoc, append-nil, drop_more}
+use Rattle.std.proofs.Common.{◌≡◌, ℕ, ◌+◌, ◌<◌, List, ◌++◌, length, get_or, drop, sym, ap, ◌∙◌}
+use Rattle.std.proofs.lemmas.List.{append_assoc, drop_more}
 use Rattle.marking.specs.Sets.{no_origins}
 use Rattle.marking.specs.declared.origins.Origins.{Origins}
 use Rattle.report.specs.Texts.{origin_line, origin_lines}
-
--- nothing is left
-pub whole : (t u rest : List ℕ) → rest ≡ [] → t ++ rest ≡ u → t ≡ u
-whole t u rest e h = sym (append-nil t) ∙ ap (λ y. t ++ y) (sym e) ∙ h
 
 -- one more cell's line
 pub line_more : (t u : List ℕ) (ss : List Origins) (i : ℕ) → i < length ss → u ≡ t ++ origin_line i (get_or ss i no_origins) →
