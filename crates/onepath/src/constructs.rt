@@ -53,8 +53,7 @@ impl Around {
 pub(crate) fn is_cell_covered(covered: &[bool], cell: u8) -> bool
     ensures { result ≡ covered_in covered.now cell }
 {
-    let place = usize::from(cell);
-    place < covered.len() && covered[place]
+    covered.get(usize::from(cell)).copied().unwrap_or(false)
 }
 
 // Whether a loop is covered: by its cell, or by a covered construct around it.

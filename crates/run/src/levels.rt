@@ -3,7 +3,7 @@ ghost use Rattle.std.specs.Prelude.{◌≡◌, ◌-◌, true, not, ◌&&◌};
 ghost use Rattle.run.specs.Machine.{flag_at, guard_at, counter_at, loop_at, flagged, guarded, counted, looped, counted_on, cleared};
 
 use crate::registers::Registers;
-use crate::slots::{get, put};
+use crate::slots::put;
 
 impl Registers {
     // Nothing is set.
@@ -21,14 +21,14 @@ impl Registers {
     pub(crate) fn flag(&self, level: usize) -> bool
         ensures { result ≡ flag_at self.now level }
     {
-        get(&self.flags, level, false)
+        self.flags.get(level).copied().unwrap_or(false)
     }
 
     // The guard of a level; that of level 0 is always yes.
     pub(crate) fn guard(&self, level: usize) -> bool
         ensures { result ≡ guard_at self.now level }
     {
-        level == 0 || get(&self.guards, level, false)
+        level == 0 || self.guards.get(level).copied().unwrap_or(false)
     }
 
     // The guard of the level around a construct.
@@ -86,7 +86,7 @@ impl Registers {
         ensures value { result ≡ counted_on (counter_at self.old level) }
         ensures after { self.new ≡ counted self.old level result }
     {
-        let n = get(&self.counters, level, 0).saturating_add(1);
+        let n = self.counters.get(level).copied().unwrap_or(0).saturating_add(1);
         self.set_counter(level, n);
         n
     }
@@ -94,7 +94,7 @@ impl Registers {
     pub(crate) fn loop_count(&self, counter: usize) -> u8
         ensures { result ≡ loop_at self.now counter }
     {
-        get(&self.loops, counter, 0)
+        self.loops.get(counter).copied().unwrap_or(0)
     }
 
     pub(crate) fn set_loop(&mut self, counter: usize, n: u8)
