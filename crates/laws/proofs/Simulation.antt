@@ -9,11 +9,12 @@ use Rattle.onepath.specs.declared.steps.Step.{Step}
 use Rattle.onepath.specs.declared.steps.Step.TheVariants.{Work, Literal, Narrow, Again, Close, Jump, Test}
 use Rattle.onepath.proofs.Kept.{ends_le, holds_le}
 use Rattle.run.specs.Values.{Values, is_true, worked, stated}
-use Rattle.run.specs.Machine.{at, flag_at, guard_at, counter_at, loop_at, flagged, guarded, counted, looped}
+use Rattle.run.specs.Machine.{at, flag_at, guard_at, counter_at, loop_at, put_level, flagged, guarded, counted, looped}
+use Rattle.run.specs.declared.registers.Level.{Level}
 use Rattle.laws.specs.Trails.{Simple, did_work, did_literal}
 use Rattle.laws.specs.Laws.{most_steps}
 use Rattle.run.specs.declared.registers.Registers.{Registers}
-use Rattle.laws.proofs.Kept.{Sized, Kept, kept_all, kept_both, kept_less, kept_flagged, kept_guarded, kept_counted, kept_looped, flag_same, guard_same, counter_same, loop_same, guard_around, one_more}
+use Rattle.laws.proofs.Kept.{Sized, Kept, kept_all, kept_both, kept_less, flag_kept, guard_kept, counter_kept, kept_put, kept_looped, flag_same, guard_same, counter_same, loop_same, guard_around, one_more}
 use Rattle.laws.proofs.Walking.{Memory, does, Walk, on, onward, Form, in_turn, resting, doing, choosing, narrowing, circling, looping, walk}
 use Rattle.laws.proofs.Following.{Follows, arrives, breaks, here, grown, step, rebase, chain, jumping, by_test}
 
@@ -31,7 +32,7 @@ module _ (v : Values) (ts : List Step) where
     sim_turn : (a b m : ℕ) (X Y : Form) → Sim v ts a k d i m X → Sim v ts b k d m j Y → Sim v ts (a + b) k d i j (in_turn X Y)
     unfolding in_turn
     sim_turn a b m X Y x y N f r h w g z e =
-        chain {y = a} (omega arith) (x a (le_refl a) r h w g z e) (λ w₁ h₁ r₁ u. rebase (le_refl k) (le_refl d) u (y (N - a) (omega arith) r₁ h₁ w₁ g (u.sized z) (u.guard k (le_refl k) ∙ e)))
+        chain {y = a} (omega arith) (x a (le_refl a) r h w g z e) (λ w₁ h₁ r₁ u. rebase (le_refl k) (le_refl d) u (y (N - a) (omega arith) r₁ h₁ w₁ g (u.sized z) (guard_kept u k (le_refl k) ∙ e)))
 
   -- past the step of a simple line
   sim_doing : (n k d i : ℕ) (f : List ℕ → List ℕ) (a : Simple) (r : Registers) (h : Option ℕ) (w : Memory) (g : Bool) →
@@ -56,11 +57,14 @@ module _ (v : Values) (ts : List Step) where
     sim_inside N f r h w g b z then =
         let r₀ = flagged r (k + 1) b in
         let r₁ = guarded r₀ (k + 1) (g && b) in
-        let k₀ : Kept k d r r₀ = kept_flagged r b in
-        let k₁ : Kept k d r r₁ = kept_both k₀ (kept_guarded r₀ (g && b)) in
-        chain {y = a} f (sx a (le_refl a) r₁ h w (g && b) (k₁.sized z) (guard_same k r₀ low (k₀.sized z) (g && b)))
+        let k₀ : Kept k d r r₀ = kept_put r _ in
+        let k₁ : Kept k d r r₁ = kept_both k₀ (kept_put r₀ _) in
+        let z₀ = k₀.sized z in
+        chain {y = a} f (sx a (le_refl a) r₁ h w (g && b) (k₁.sized z) (guard_same k r₀ low z₀ _))
         (λ w₂ h₂ r₂ u.
-        then w₂ h₂ r₂ (kept_both k₁ (kept_less (omega arith) (le_refl d) u)) (u.flag (k + 1) (le_refl (k + 1)) ∙ flag_same k r low z b) (u.counter (k + 1) (le_refl (k + 1))))
+        then w₂ h₂ r₂ (kept_both k₁ (kept_less (omega arith) (le_refl d) u))
+        (flag_kept u (k + 1) (le_refl (k + 1)) ∙ flag_same k r₀ low z₀ _ ∙ flag_same k r low z _)
+        (counter_kept u (k + 1) (le_refl (k + 1)) ∙ counter_same k r₀ low z₀ _ ∙ counter_same k r low z _))
 
   module _ (a c k d i m e x : ℕ) (X Y : Form) (p : i < length ts) (q : m < length ts) (low : k ≤ 5) where
     sim_choosing : (b : Bool) → step_at ts i ≡ if_head b (level_in b k) x (m + 1) → step_at ts m ≡ if_middle b (level_in b k) e →
@@ -72,12 +76,13 @@ module _ (v : Values) (ts : List Step) where
         (rw (guard_around r k g o)
         (sim_inside a k d (i + 1) m X low sx (N - 1) (omega arith) r h w g b z
         (λ w₂ h₂ r₂ k₂ f₂ n₂.
-        let r₃ = guarded r₂ (k + 1) (g && not b) in
-        let k₃ : Kept k d r r₃ = kept_both k₂ (kept_guarded r₂ (g && not b)) in
+        let x₃ : Level = record { flag = b; guard = g && not b; passes = counter_at r₂ (k + 1) } in
+        let r₃ = put_level r₂ (k + 1) x₃ in
+        let k₃ : Kept k d r r₃ = kept_both k₂ (kept_put r₂ x₃) in
         step (omega arith) q md
-        (rw (guard_around r₂ k g (k₂.guard k (le_refl k) ∙ o), f₂)
+        (rw (guard_around r₂ k g (guard_kept k₂ k (le_refl k) ∙ o), f₂)
         (rebase (omega arith) (le_refl d) k₃
-        (sy (N - 1 - a - 1) (omega arith) r₃ h₂ w₂ (g && not b) (k₃.sized z) (guard_same k r₂ low (k₂.sized z) (g && not b))))))))
+        (sy (N - 1 - a - 1) (omega arith) r₃ h₂ w₂ (g && not b) (k₃.sized z) (guard_same k r₂ low (k₂.sized z) x₃)))))))
     sim_choosing false hd md sx sy N f r h w g z o = step (omega arith) p hd (go (is_true v w.cells x))
       where
         go : (b : Bool) → Follows v ts (N - 1) k d r w.trail (at (cond b (i + 1) (m + 1)) r h w.cells) e (cond b (X g w h) (Y g w h))
@@ -99,10 +104,11 @@ module _ (v : Values) (ts : List Step) where
         (sim_inside a k d (i + 1) m X low sx (N - 1) (omega arith) r h w g (f && is_true v w.cells x) z
         (λ w₂ h₂ r₂ k₂ f₂ n₂.
         let r₃ = counted r₂ (k + 1) (n + 1) in
-        let k₃ : Kept k d r r₃ = kept_both k₂ (kept_counted r₂ (n + 1)) in
+        let k₃ : Kept k d r r₃ = kept_both k₂ (kept_put r₂ _) in
+        let z₂ = k₂.sized z in
         step (omega arith) (omega arith) ha
         (rw (one_more (counter_at r₂ (k + 1)) n (n₂ ∙ en) (omega arith))
-        (then w₂ h₂ r₃ k₃ (k₃.guard k (le_refl k) ∙ eg) f₂ (counter_same k r₂ low (k₂.sized z) (n + 1)))))))
+        (then w₂ h₂ r₃ k₃ (guard_kept k₃ k (le_refl k) ∙ eg) (flag_same k r₂ low z₂ _ ∙ f₂) (counter_same k r₂ low z₂ _))))))
 
     sim_narrowing : (N n c : ℕ) → suc n * (2 + a) + 1 ≤ N → c + suc n ≡ bound → (r : Registers) (h : Option ℕ) (w : Memory) (g f : Bool) → Sized r →
         guard_at r k ≡ g → flag_at r (k + 1) ≡ f → counter_at r (k + 1) ≡ c → Follows v ts N k d r w.trail (at i r h w.cells) (m + 1 + 1) (narrowing v x l X (suc n) f g w h)
@@ -138,7 +144,7 @@ module _ (v : Values) (ts : List Step) where
         let k₂ : Kept k d r r₂ = kept_both k₁ (kept_less (le_refl k) (omega arith) u) in
         step (omega arith) q hj
         (rebase (le_refl k) (le_refl d) k₂
-        (sim_circling (N - 1 - a - 1) n (c + 1) (omega arith) (omega arith) r₂ h₂ w₂ g (k₂.sized z) (k₂.guard k (le_refl k) ∙ eg) (u.loop d (omega arith) ∙ loop_same d r low z (c + 1))))))
+        (sim_circling (N - 1 - a - 1) n (c + 1) (omega arith) (omega arith) r₂ h₂ w₂ g (k₂.sized z) (guard_kept k₂ k (le_refl k) ∙ eg) (u.loop d (omega arith) ∙ loop_same d r low z (c + 1))))))
         (arrives r kept_all here)))
 
   module _ (a k d i m e x l : ℕ) (X : Form) (p : i + 2 ≤ m) (q : e ≤ length ts) (low : k + d ≤ 5) where
@@ -151,13 +157,14 @@ module _ (v : Values) (ts : List Step) where
         let y : i + 2 ≡ i + 1 + 1 = omega arith in
         let r₀ = flagged r (k + 1) true in
         let r₁ = counted r₀ (k + 1) 0 in
-        let k₀ : Kept k d r r₀ = kept_flagged r true in
-        let k₁ : Kept k d r r₁ = kept_both k₀ (kept_counted r₀ 0) in
+        let k₀ : Kept k d r r₀ = kept_put r _ in
+        let k₁ : Kept k d r r₁ = kept_both k₀ (kept_put r₀ _) in
+        let z₀ = k₀.sized z in
         step (omega arith) (omega arith) hd
         (rebase (le_refl k) (le_refl d) k₁
         (rw j
         (sim_narrowing a k d (i + 1) m x (suc n) l X (omega arith) (omega arith) (omega arith) most ht hb he.0 (subst (λ t. Sim v ts a (k + 1) d t m X) y sx)
-        (N - 1) n 0 (omega arith) (omega arith) r₁ h w g true (k₁.sized z) o (flag_same k r (omega arith) z true) (counter_same k r₀ (omega arith) (k₀.sized z) 0))))
+        (N - 1) n 0 (omega arith) (omega arith) r₁ h w g true (k₁.sized z) (guard_kept k₁ k (le_refl k) ∙ o) (flag_same k r₀ (omega arith) z₀ _ ∙ flag_same k r (omega arith) z _) (counter_same k r₀ (omega arith) z₀ _))))
     sim_looping false n least most hd ht hb he sx N f r h w g z o =
         let y : i + 2 ≡ i + 1 + 1 = omega arith in
         let r₁ = looped r d 0 in

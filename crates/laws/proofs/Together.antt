@@ -1,13 +1,14 @@
 -- Two runs whose uncovered cells are alike go in lockstep.
-use Rattle.std.proofs.Common.{◌≡◌, ℕ, zero, suc, Bool, true, false, cond, ◌||◌, eqb, leb, List, length, get_or, set, is_some, Option, sym, refl, ap, ◌∙◌, inl, inr}
-use Rattle.std.proofs.lemmas.List.{length-set, get_or-set_same, get_or-set_other, set_past}
+use Rattle.std.proofs.Common.{◌≡◌, ℕ, zero, suc, Bool, true, false, cond, ◌||◌, eqb, leb, List, map, length, get_or, set, is_some, Option, sym, refl, ap, ◌∙◌, inl, inr}
+use Rattle.std.proofs.Math.ListN.{get_or-map}
+use Rattle.std.proofs.lemmas.List.{length-set, get_or-set_same, get_or-set_other, set-get_or, map-set, set_past}
 use Rattle.std.proofs.lemmas.Bool.{both_ways, cases_eq, cases_lt}
 use Rattle.onepath.specs.Holds.{step_at}
 use Rattle.onepath.specs.Listed.{steps_of}
 use Rattle.onepath.specs.declared.steps.Step.{Step}
 use Rattle.onepath.specs.declared.steps.Step.TheVariants.{Work, Literal, Ask, Turn, Setout, Narrow, Again, Close, Branch, Jump, Enter, Test}
 use Rattle.run.specs.Values.{Values, is_true}
-use Rattle.run.specs.Machine.{State, at, act, next, steps, fresh, loop_at}
+use Rattle.run.specs.Machine.{State, at, act, next, steps, fresh, no_level, counter_at, loop_at, put_level, flagged, guarded, counted, counted_on}
 use Rattle.laws.specs.Laws.{Alike, Lockstep}
 use Rattle.run.specs.declared.registers.Registers.{Registers}
 use Rattle.laws.proofs.Tightness.{Tight, tight_at}
@@ -23,13 +24,29 @@ set_both w u t y x e l h =
       | inr n ↦ get_or-set_other w t x y e n ∙ h ∙ sym (get_or-set_other u t x y e n)
     ]
 
+-- how many passes each level has counted
+abbrev passes_of : Registers → List ℕ
+passes_of r = map (λ x. x.passes) r.levels
+
+counter_in : (r : Registers) (k : ℕ) → counter_at r k ≡ get_or (passes_of r) k 0
+counter_in r k = sym (get_or-map (λ x. x.passes) r.levels k no_level)
+
+-- a flag or a guard that is set leaves them alone
+same_passes : (r : Registers) (k : ℕ) (b c : Bool) → passes_of (put_level r k (record { flag = b; guard = c; passes = counter_at r k })) ≡ passes_of r
+same_passes r k b c =
+    map-set (λ x. x.passes) r.levels k _ ∙ ap (set (passes_of r) k) (counter_in r k) ∙ set-get_or (passes_of r) k 0
+
 -- what two runs have in common: their flags, guards and latches may differ
 pub record Together (covered : ℕ → Bool) (s t : State) : Type 0 where
   pub place : s.track.place ≡ t.track.place
   pub broken : s.track.broken ≡ t.track.broken
-  pub counters : s.track.registers.counters ≡ t.track.registers.counters
+  pub passes : passes_of s.track.registers ≡ passes_of t.track.registers
   pub loops : s.track.registers.loops ≡ t.track.registers.loops
   pub cells : Alike covered s.cells t.cells
+
+-- passes that each run counts
+counted-alike : (r q : Registers) (k n : ℕ) → passes_of r ≡ passes_of q → passes_of (counted r k n) ≡ passes_of (counted q k n)
+counted-alike r q k n e = map-set (λ x. x.passes) r.levels k _ ∙ ap (λ xs. set xs k n) e ∙ sym (map-set (λ x. x.passes) q.levels k _)
 
 module _ (covered : ℕ → Bool) where
   -- a write to a covered cell keeps the others alike
@@ -57,16 +74,21 @@ module _ (covered : ℕ → Bool) where
   together_by true p q = p
   together_by false p q = q
 
-  together_at : {i : ℕ} {r q : Registers} {h g : Option ℕ} {w u : List ℕ} → r.counters ≡ q.counters → r.loops ≡ q.loops → Alike covered w u → Together covered (at i r h w) (at i q g u)
-  together_at cs ls a = record { place = refl; broken = refl; counters = cs; loops = ls; cells = a }
+  together_at : {i : ℕ} {r q : Registers} {h g : Option ℕ} {w u : List ℕ} → passes_of r ≡ passes_of q → r.loops ≡ q.loops → Alike covered w u → Together covered (at i r h w) (at i q g u)
+  together_at cs ls a = record { place = refl; broken = refl; passes = cs; loops = ls; cells = a }
 
   module _ (v : Values) where
-    module _ (i : ℕ) (r q : Registers) (h g : Option ℕ) (w u : List ℕ) (cs : r.counters ≡ q.counters) (ls : r.loops ≡ q.loops) (al : Alike covered w u) where
+    module _ (i : ℕ) (r q : Registers) (h g : Option ℕ) (w u : List ℕ) (cs : passes_of r ≡ passes_of q) (ls : r.loops ≡ q.loops) (al : Alike covered w u) where
       same-cell : (x : ℕ) → covered x ≡ false → get_or w x (v.literally 0) ≡ get_or u x (v.literally 0)
       same-cell x c = al.1 x c (v.literally 0)
 
       same_test : (x : ℕ) → covered x ≡ false → is_true v w x ≡ is_true v u x
       same_test x c = ap v.holds (same-cell x c)
+
+      -- a flag and a guard that each run sets
+      asked : (k : ℕ) (b c y z : Bool) → passes_of (guarded (flagged r k b) k c) ≡ passes_of (guarded (flagged q k y) k z)
+      asked k b c y z =
+          same_passes (flagged r k b) k _ c ∙ same_passes r k b _ ∙ cs ∙ sym (same_passes (flagged q k y) k _ z ∙ same_passes q k y _)
 
       -- the same tight step
       together-act : (o : Step) → Tight covered o → Together covered (act v o i r h w) (act v o i q g u)
@@ -74,11 +96,13 @@ module _ (covered : ℕ → Bool) where
       together-act (Work k t o a b) (inr (ca, cb, z)) = rw z (together_at cs ls (alike_same w u t _ _ (rw (same-cell a ca, same-cell b cb)) al))
       together-act (Literal k t n) (inl c) = together_at cs ls (alike_covered w u t _ _ _ _ c al)
       together-act (Literal k t n) (inr z) = rw z (together_at cs ls (alike_same w u t _ _ refl al))
-      together-act (Ask k x) _ = together_at cs ls al
-      together-act (Turn k) _ = together_at cs ls al
-      together-act (Setout k) _ = together_at (rw cs) ls al
-      together-act (Narrow k x) _ = together_at cs ls al
-      together-act (Again k n j) _ = rw cs (together_at refl ls al)
+      together-act (Ask k x) _ = together_at (asked k _ _ _ _) ls al
+      together-act (Turn k) _ = together_at (same_passes r k _ _ ∙ cs ∙ sym (same_passes q k _ _)) ls al
+      together-act (Setout k) _ = together_at (counted-alike (flagged r k true) (flagged q k true) k 0 (same_passes r k _ _ ∙ cs ∙ sym (same_passes q k _ _))) ls al
+      together-act (Narrow k x) _ = together_at (asked k _ _ _ _) ls al
+      together-act (Again k n j) _ =
+          let e : counter_at r k ≡ counter_at q k = counter_in r k ∙ ap (λ xs. get_or xs k 0) cs ∙ sym (counter_in q k) in
+          rw e (together_at (counted-alike r q k (counted_on (counter_at q k)) cs) ls al)
       together-act (Close k x l) _ = together_at cs ls al
       together-act (Branch x j) c = rw (same_test x c) (together_at cs ls al)
       together-act (Jump j) _ = together_at cs ls al
@@ -86,7 +110,7 @@ module _ (covered : ℕ → Bool) where
       together-act (Test d x n j l) c =
           rw (same_test x c, ls)
           (together_by (is_true v u x)
-          (together_by (eqb (loop_at q d) n) (record { place = refl; broken = refl; counters = cs; loops = refl; cells = al }) (together_at cs refl al))
+          (together_by (eqb (loop_at q d) n) (record { place = refl; broken = refl; passes = cs; loops = refl; cells = al }) (together_at cs refl al))
           (together_at cs refl al))
 
     module _ (ts : List Step) (tight : (i : ℕ) → Tight covered (step_at ts i)) where
@@ -95,8 +119,8 @@ module _ (covered : ℕ → Bool) where
           let i = t.track.place in
           rw (e.place, e.broken)
           (together_by (is_some t.track.broken || leb (length ts) i)
-          (record { place = refl; broken = refl; counters = e.counters; loops = e.loops; cells = e.cells })
-          (together-act i s.track.registers t.track.registers s.track.latch t.track.latch s.cells t.cells e.counters e.loops e.cells (step_at ts i) (tight i)))
+          (record { place = refl; broken = refl; passes = e.passes; loops = e.loops; cells = e.cells })
+          (together-act i s.track.registers t.track.registers s.track.latch t.track.latch s.cells t.cells e.passes e.loops e.cells (step_at ts i) (tight i)))
 
       together-steps : (n : ℕ) (s t : State) → Together covered s t → Together covered (steps v ts n s) (steps v ts n t)
       together-steps zero s t e = e
@@ -104,6 +128,6 @@ module _ (covered : ℕ → Bool) where
 
 pub lockstep : Lockstep
 lockstep v covered code f w u a n =
-    let start : Together covered (fresh w) (fresh u) = record { place = refl; broken = refl; counters = refl; loops = refl; cells = a } in
+    let start : Together covered (fresh w) (fresh u) = record { place = refl; broken = refl; passes = refl; loops = refl; cells = a } in
     let e = together-steps covered v (steps_of covered 0 0 0 0 code) (tight_at covered code f) n (fresh w) (fresh u) start in
     (e.place, e.broken, e.cells)

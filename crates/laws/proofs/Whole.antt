@@ -9,6 +9,7 @@ use Rattle.onepath.proofs.Front.{front_holds}
 use Rattle.run.specs.Values.{Values}
 use Rattle.run.specs.Branching.{Out, went, broke, branching}
 use Rattle.run.specs.Machine.{State, is_over, steps, cleared, fresh}
+use Rattle.run.proofs.Taking.{over_stays}
 use Rattle.laws.specs.Trails.{Simple, trail, enabled}
 use Rattle.laws.specs.Laws.{ComesTo, Agreement, most_steps, Ending, Order, Disabled}
 use Rattle.run.specs.declared.registers.Registers.{Registers}
@@ -26,12 +27,8 @@ comes (broke l w) c (on u h) a (arrives t y b) = (b.number, rw b.there (inl (a.0
 comes (broke l w) c (off m h u) (inl a, x) (breaks i t b) = (b.number, rw b.there (inl (a, inr (m, refl))))
 comes (broke l w) c (off m h u) (inr a, x) (breaks i t b) = (b.number, rw b.there (inr (a.0, ap Some a.1)))
 
--- a run that is over stays as it is, and goes over nothing more
+-- a run that is over goes over nothing more
 module _ (v : Values) (ts : List Step) where
-  over_stays : (n : ℕ) (s : State) → is_over (length ts) s ≡ true → steps v ts n s ≡ s
-  over_stays zero s h = refl
-  over_stays (suc n) s h = rw h (over_stays n s h)
-
   over_idle : (n : ℕ) (s : State) → is_over (length ts) s ≡ true → enabled v ts n s ≡ []
   over_idle zero s h = refl
   over_idle (suc n) s h = rw h (over_idle n s h)
@@ -47,7 +44,7 @@ module _ {v : Values} {ts : List Step} where
       let m = b.number in
       let e : n ≡ m + (n - m) = omega arith in
       record {
-        over = rw (e, steps_both v ts m (n - m) s, b.there, over_stays v ts (n - m) t h) h;
+        over = rw (e, steps_both v ts m (n - m) s, b.there, over_stays v ts t (n - m) h) h;
         told = rw (e, enabled_both v ts m (n - m) s, b.there, over_idle v ts (n - m) t h, append-nil (enabled v ts m s)) b.told;
       }
 
@@ -69,7 +66,7 @@ module _ (v : Values) (covered : ℕ → Bool) (cells : ℕ) (c : Code) (w : Lis
   follows : Follows v (steps_of covered 0 0 0 0 c) (most_steps c) 0 0 cleared [] (fresh w) (length (steps_of covered 0 0 0 0 c)) (walk v covered 0 0 c true (begun w) None)
   follows =
       let ts = steps_of covered 0 0 0 0 c in
-      let z : Sized cleared = record { flags = refl; guards = refl; counters = refl; loops = refl } in
+      let z : Sized cleared = record { levels = refl; loops = refl } in
       sim v covered ts cells 6 0 0 0 0 (length ts) c s (omega arith) (front_holds covered ts [] 0 0 0 c (sym (append-nil ts))) (le_refl (length ts)) (most_steps c) (le_refl (most_steps c)) cleared None (begun w) true z refl
 
 pub agreement : Agreement

@@ -1,4 +1,3 @@
-pub mod Meanings
 pub mod Taking
 pub mod Going
 pub mod Judged

@@ -5,33 +5,46 @@ use Rattle.onepath.specs.declared.steps.Step.{Step}
 use Rattle.onepath.specs.declared.steps.Step.TheVariants.{Work, Literal, Ask, Turn, Setout, Narrow, Again, Close, Branch, Jump, Enter, Test}
 use Rattle.value.specs.declared.kinds.Value.{Ghosts}
 use Rattle.run.specs.Values.{Values, is_true, worked, stated}
+use Rattle.run.specs.declared.registers.Level.{Level}
 use Rattle.run.specs.declared.registers.Registers.{Registers}
 use Rattle.run.specs.declared.track.Track.{Track}
 
+-- nothing is set at the level
+abbrev pub no_level : Level
+no_level = record { flag = false; guard = false; passes = 0 }
+
+-- what is kept for a level; past the last nothing is set
+abbrev pub level_at : Registers → ℕ → Level
+level_at r k = slice_index_or r.levels k no_level
+
 abbrev pub flag_at : Registers → ℕ → Bool
-flag_at r k = slice_index_or r.flags k false
+flag_at r k = (level_at r k).flag
 
 -- the guard of level 0 is always yes
 abbrev pub guard_at : Registers → ℕ → Bool
-guard_at r k = k == 0 || slice_index_or r.guards k false
+guard_at r k = k == 0 || (level_at r k).guard
 
 abbrev pub counter_at : Registers → ℕ → ℕ
-counter_at r k = slice_index r.counters k
+counter_at r k = (level_at r k).passes
 
 abbrev pub loop_at : Registers → ℕ → ℕ
 loop_at r d = slice_index r.loops d
 
+-- past the last level, the registers as they are
+abbrev pub put_level : Registers → ℕ → Level → Registers
+put_level r k x = record { levels = slice_set r.levels k x; loops = r.loops }
+
 abbrev pub flagged : Registers → ℕ → Bool → Registers
-flagged r k b = record { flags = slice_set r.flags k b; guards = r.guards; counters = r.counters; loops = r.loops }
+flagged r k b = let x = level_at r k in put_level r k (record { flag = b; guard = x.guard; passes = x.passes })
 
 abbrev pub guarded : Registers → ℕ → Bool → Registers
-guarded r k b = record { flags = r.flags; guards = slice_set r.guards k b; counters = r.counters; loops = r.loops }
+guarded r k b = let x = level_at r k in put_level r k (record { flag = x.flag; guard = b; passes = x.passes })
 
 abbrev pub counted : Registers → ℕ → ℕ → Registers
-counted r k n = record { flags = r.flags; guards = r.guards; counters = slice_set r.counters k n; loops = r.loops }
+counted r k n = let x = level_at r k in put_level r k (record { flag = x.flag; guard = x.guard; passes = n })
 
 abbrev pub looped : Registers → ℕ → ℕ → Registers
-looped r d n = record { flags = r.flags; guards = r.guards; counters = r.counters; loops = slice_set r.loops d n }
+looped r d n = record { levels = r.levels; loops = slice_set r.loops d n }
 
 -- one more; a counter is a byte, as a bound is, and stays at 255
 abbrev pub counted_on : ℕ → ℕ
@@ -93,11 +106,14 @@ taken v ts (suc n) s = cond (is_over (length ts) s) 0 (1 + taken v ts n (next v 
 
 -- nothing is set
 abbrev pub cleared : Registers
-cleared = record { flags = replicate 7 false; guards = replicate 7 false; counters = replicate 7 0; loops = replicate 6 0 }
+cleared = record { levels = replicate 7 no_level; loops = replicate 6 0 }
 
--- a run before its first step
+-- a run before its first step, and with its cells
+abbrev pub at_start : Track
+at_start = record { place = 0; registers = cleared; latch = None; broken = None }
+
 abbrev pub fresh : List ℕ → State
-fresh w = at 0 cleared None w
+fresh w = record { track = at_start; cells = w }
 
 -- the run that a track and the cells of a kind of values are
 abbrev pub state_of : {V : Type 0} → Ghosts V → Track → List V → State

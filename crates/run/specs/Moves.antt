@@ -1,8 +1,8 @@
--- Whose each step is; a track after the close of a covered loop and after the test of an open one.
-use Rattle.std.specs.Prelude.{ℕ, ◌-◌, Bool, cond, ◌&&◌, Some, ◌==◌}
+-- Whose each step is; a track after the close of a covered loop.
+use Rattle.std.specs.Prelude.{ℕ, ◌-◌, Bool, ◌&&◌}
 use Rattle.onepath.specs.declared.steps.Step.{Step}
 use Rattle.onepath.specs.declared.steps.Step.TheVariants.{Work, Literal, Ask, Turn, Setout, Narrow, Again, Close, Branch, Jump, Enter, Test}
-use Rattle.run.specs.Machine.{flag_at, guard_at, loop_at, looped, counted_on, closing}
+use Rattle.run.specs.Machine.{flag_at, guard_at, closing}
 use Rattle.run.specs.declared.track.Track.{Track}
 
 -- whose step it is: a simple line's, a covered construct's or an open one's
@@ -28,11 +28,3 @@ owner_of (Test d x n j l) = of_open
 abbrev pub closed : Track → ℕ → Bool → ℕ → Track
 closed t k b l =
     record { place = t.place; registers = t.registers; latch = closing (guard_at t.registers (k - 1) && (flag_at t.registers k && b)) l t.latch; broken = t.broken }
-
-abbrev pub tested : Track → ℕ → Bool → ℕ → ℕ → ℕ → ℕ → Track
-tested t d b n after to l =
-    cond b
-    (cond (loop_at t.registers d == n)
-    (record { place = t.place; registers = t.registers; latch = t.latch; broken = Some l })
-    (record { place = after; registers = looped t.registers d (counted_on (loop_at t.registers d)); latch = t.latch; broken = t.broken }))
-    (record { place = to; registers = t.registers; latch = t.latch; broken = t.broken })

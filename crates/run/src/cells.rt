@@ -2,14 +2,14 @@
 ghost use Rattle.std.specs.Prelude.{◌≡◌, map, slice_set};
 ghost use Rattle.run.specs.Values.{kind_of, cell_at, is_true, worked, stated};
 
-use crate::slots::{get, put};
+use crate::slots::put;
 use value::Value;
 
 // The value of a cell; past the last cell the literal 0.
 pub fn cell<V: Value>(cells: &[V], x: usize) -> V
     ensures { V.Value.meaning result ≡ cell_at (kind_of V.Value) (map V.Value.meaning cells.now) x }
 {
-    get(cells, x, V::literal(0))
+    cells.get(x).copied().unwrap_or(V::literal(0))
 }
 
 pub(crate) fn is_true<V: Value>(cells: &[V], x: u8) -> bool

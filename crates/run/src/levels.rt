@@ -1,9 +1,9 @@
 // What the steps do to the registers.
-ghost use Rattle.std.specs.Prelude.{◌≡◌, ◌-◌, true, not, ◌&&◌};
-ghost use Rattle.run.specs.Machine.{flag_at, guard_at, counter_at, loop_at, flagged, guarded, counted, looped, counted_on, cleared};
+ghost use Rattle.std.specs.Prelude.{◌≡◌, ◌-◌, true, not, ◌&&◌, ◌==◌, if◌then◌else◌};
+ghost use Rattle.run.specs.Machine.{level_at, flag_at, guard_at, counter_at, loop_at, put_level, flagged, guarded, counted, looped, counted_on, cleared};
 
-use crate::registers::Registers;
-use crate::slots::{get, put};
+use crate::registers::{Level, Registers};
+use crate::slots::put;
 
 impl Registers {
     // Nothing is set.
@@ -11,24 +11,35 @@ impl Registers {
         ensures { result ≡ cleared }
     {
         Registers {
-            flags: [false; 7],
-            guards: [false; 7],
-            counters: [0; 7],
+            levels: [Level::default(); 7],
             loops: [0; 6],
         }
+    }
+
+    // What is kept for a level; past the last nothing is set.
+    fn level(&self, level: usize) -> Level
+        ensures { result ≡ level_at self.now level }
+    {
+        self.levels.get(level).copied().unwrap_or_default()
+    }
+
+    fn set_level(&mut self, level: usize, to: Level)
+        ensures { self.new ≡ put_level self.old level to }
+    {
+        put(&mut self.levels, level, to);
     }
 
     pub(crate) fn flag(&self, level: usize) -> bool
         ensures { result ≡ flag_at self.now level }
     {
-        get(&self.flags, level, false)
+        self.level(level).flag
     }
 
     // The guard of a level; that of level 0 is always yes.
     pub(crate) fn guard(&self, level: usize) -> bool
         ensures { result ≡ guard_at self.now level }
     {
-        level == 0 || get(&self.guards, level, false)
+        level == 0 || self.level(level).guard
     }
 
     // The guard of the level around a construct.
@@ -38,31 +49,20 @@ impl Registers {
         self.guard(level.saturating_sub(1))
     }
 
-    fn set_flag(&mut self, level: usize, flag: bool)
-        ensures { self.new ≡ flagged self.old level flag }
-    {
-        put(&mut self.flags, level, flag);
-    }
-
-    fn set_guard(&mut self, level: usize, guard: bool)
-        ensures { self.new ≡ guarded self.old level guard }
-    {
-        put(&mut self.guards, level, guard);
-    }
-
-    fn set_counter(&mut self, level: usize, n: u8)
-        ensures { self.new ≡ counted self.old level n }
-    {
-        put(&mut self.counters, level, n);
-    }
-
     // The construct's flag becomes q, and its guard that of the level around it and q.
     pub(crate) fn ask(&mut self, level: usize, q: bool)
         ensures { self.new ≡ guarded (flagged self.old level q) level (guard_at self.old (level - 1) && q) }
     {
+        let passes = self.level(level).passes;
         let guard = self.outer_guard(level) && q;
-        self.set_flag(level, q);
-        self.set_guard(level, guard);
+        self.set_level(
+            level,
+            Level {
+                flag: q,
+                guard,
+                passes,
+            },
+        );
     }
 
     // The guard becomes that of the level around it and not the flag.
@@ -70,15 +70,28 @@ impl Registers {
         ensures { self.new ≡ guarded self.old level (guard_at self.old (level - 1) && not (flag_at self.old level)) }
     {
         let guard = self.outer_guard(level) && !self.flag(level);
-        self.set_guard(level, guard);
+        self.set_level(
+            level,
+            Level {
+                guard,
+                ..self.level(level)
+            },
+        );
     }
 
     // The flag becomes yes, and no pass is counted.
     pub(crate) fn setout(&mut self, level: usize)
         ensures { self.new ≡ counted (flagged self.old level true) level 0 }
     {
-        self.set_flag(level, true);
-        self.set_counter(level, 0);
+        let guard = self.level(level).guard;
+        self.set_level(
+            level,
+            Level {
+                flag: true,
+                guard,
+                passes: 0,
+            },
+        );
     }
 
     // Counts a pass; answers how many there are.
@@ -86,20 +99,33 @@ impl Registers {
         ensures value { result ≡ counted_on (counter_at self.old level) }
         ensures after { self.new ≡ counted self.old level result }
     {
-        let n = get(&self.counters, level, 0).saturating_add(1);
-        self.set_counter(level, n);
-        n
-    }
-
-    pub(crate) fn loop_count(&self, counter: usize) -> u8
-        ensures { result ≡ loop_at self.now counter }
-    {
-        get(&self.loops, counter, 0)
+        let passes = self.level(level).passes.saturating_add(1);
+        self.set_level(
+            level,
+            Level {
+                passes,
+                ..self.level(level)
+            },
+        );
+        passes
     }
 
     pub(crate) fn set_loop(&mut self, counter: usize, n: u8)
         ensures { self.new ≡ looped self.old counter n }
     {
         put(&mut self.loops, counter, n);
+    }
+
+    // Counts a pass of an open loop, unless there are as many as its bound; answers whether it did.
+    pub(crate) fn count_loop(&mut self, counter: usize, bound: u8) -> bool
+        ensures value { result ≡ not (loop_at self.old counter == bound) }
+        ensures after { self.new ≡ (if result then looped self.old counter (counted_on (loop_at self.old counter)) else self.old) }
+    {
+        let passes = self.loops.get(counter).copied().unwrap_or(0);
+        if passes == bound {
+            return false;
+        }
+        self.set_loop(counter, passes.saturating_add(1));
+        true
     }
 }

@@ -17,6 +17,6 @@ pub use cells::{cell, write};
 pub use faults::RunFault;
 pub use judging::judge;
 pub use machine::{is_over, run_steps, step};
-pub use registers::Registers;
+pub use registers::{Level, Registers};
 pub use track::Track;
 pub use verdicts::{Verdict, path_verdict};

@@ -1,4 +1,5 @@
-// The step machine.
+// The step machine. The match over the steps is in three functions, by whose step it is: in one it would be too long to
+// read at once.
 ghost use Rattle.std.specs.Prelude.{◌≡◌, ◌+◌, ◌||◌, map, is_some, None, nat_le};
 ghost use Rattle.run.specs.Machine.{act as acted, next, steps as stepped, taken, state_of};
 ghost use Rattle.run.specs.Moves.{owner_of, of_covered, of_open};
@@ -25,8 +26,9 @@ fn act_covered<V: Value>(step: Step, after: usize, track: &mut Track, cells: &[V
             track.registers.ask(level, q);
         }
         Step::Again { level, bound, to } => {
-            let passes = track.registers.count_pass(level);
-            track.place = if passes < bound { to } else { after };
+            if track.registers.count_pass(level) < bound {
+                track.place = to;
+            }
         }
         Step::Close { level, cell, line } => track.close(level, is_true(cells, cell), line),
         _ => {}
@@ -53,8 +55,13 @@ fn act_open<V: Value>(step: Step, after: usize, track: &mut Track, cells: &[V])
             to,
             line,
         } => {
-            let go_on = is_true(cells, cell);
-            track.test(counter, go_on, bound, after, to, line);
+            if !is_true(cells, cell) {
+                track.place = to;
+            } else if track.registers.count_loop(counter, bound) {
+                track.place = after;
+            } else {
+                track.broken = Some(line);
+            }
         }
         _ => {}
     }
@@ -108,7 +115,7 @@ pub fn step<V: Value>(track: &mut Track, steps: &[Step], cells: &mut [V])
     ensures { state_of V.Value track.new cells.new ≡ next (kind_of V.Value) steps.now (state_of V.Value track.old cells.old) }
 {
     let place = track.place;
-    if track.broken.is_some() || place >= steps.len() {
+    if is_over(track, steps.len()) {
         return;
     }
     act(steps[place], place + 1, track, cells);

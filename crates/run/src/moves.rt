@@ -1,10 +1,24 @@
-// What closing and testing a loop do to a track.
-ghost use Rattle.std.specs.Prelude.{◌≡◌, ◌-◌, ◌&&◌, None};
-ghost use Rattle.run.specs.Moves.{closed, tested};
+// A run's beginning, and what the close of a covered loop does to it.
+ghost use Rattle.std.specs.Prelude.{◌≡◌, ◌-◌, ◌&&◌};
+ghost use Rattle.run.specs.Machine.{at_start};
+ghost use Rattle.run.specs.Moves.{closed};
 
+use crate::registers::Registers;
 use crate::track::Track;
 
 impl Track {
+    // Before the first step.
+    pub fn new() -> Track
+        ensures { result ≡ at_start }
+    {
+        Track {
+            place: 0,
+            registers: Registers::new(),
+            latch: None,
+            broken: None,
+        }
+    }
+
     // Latches the loop's line where nothing is latched, the loop ran, and its cell is still true.
     pub(crate) fn close(&mut self, level: usize, is_true: bool, line: usize)
         ensures { self.new ≡ closed self.old level is_true line }
@@ -14,31 +28,6 @@ impl Track {
             && self.latch.is_none()
         {
             self.latch = Some(line);
-        }
-    }
-
-    // Tests an open loop: past it, on to another pass, or a break.
-    pub(crate) fn test(
-        &mut self,
-        counter: usize,
-        go_on: bool,
-        bound: u8,
-        after: usize,
-        to: usize,
-        line: usize,
-    )
-        ensures { self.new ≡ tested self.old counter go_on bound after to line }
-    {
-        if !go_on {
-            self.place = to;
-            return;
-        }
-        let passes = self.registers.loop_count(counter);
-        if passes == bound {
-            self.broken = Some(line);
-        } else {
-            self.registers.set_loop(counter, passes.saturating_add(1));
-            self.place = after;
         }
     }
 }

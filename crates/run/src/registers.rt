@@ -2,8 +2,14 @@
 // and level 0 has a guard that is always yes.
 #[derive(Clone, Copy)]
 pub struct Registers {
-    pub flags: [bool; 7],
-    pub guards: [bool; 7],
-    pub counters: [u8; 7],
+    pub levels: [Level; 7],
     pub loops: [u8; 6],
+}
+
+// What is kept for a level: the flag and the guard of the covered construct there, and how many passes it has counted.
+#[derive(Clone, Copy, Default)]
+pub struct Level {
+    pub flag: bool,
+    pub guard: bool,
+    pub passes: u8,
 }

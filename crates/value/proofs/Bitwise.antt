@@ -1,39 +1,30 @@
 -- What the operations on sets do to each digit, by its bit.
-use Rattle.std.proofs.Common.{◌≡◌, ℕ, ◌-◌, ◌/◌, ◌%◌, ◌^◌, ◌<◌, ◌≤◌, Bool, true, false, not, ◌&&◌, ◌||◌, eqb, refl, ap, ◌∙◌, mod-lt, mod-eq_of_lt, arith, lit<}
-use lib.Bits.{bit_and, bit_or, bit_xor, and_shr, and_mod, or_shr, or_mod, xor_shr, xor_mod, and_mask, xor_add_and, or_lt}
+use Rattle.std.proofs.Common.{◌≡◌, ℕ, ◌+◌, ◌-◌, ◌%◌, ◌<◌, ◌≤◌, max, min, Bool, true, false, not, ◌&&◌, ◌||◌, eqb, refl, ap, ◌∙◌, mod-eq_of_lt, arith}
+use Rattle.std.specs.Int.{bit_at}
+use Rattle.std.specs.Int.Bits.{bit_and, bit_or, bit_xor}
+use Rattle.std.proofs.lemmas.Nat.{and_mask, or_lt}
+use lib.Bits.{xor_add_and}
+use Rattle.std.proofs.lemmas.Nat.Bits.{bit_at-lt, bit_at_and, bit_at_or, bit_at_xor}
 use Rattle.value.specs.Sets.{has, union_of, common, in_just_one, outside}
 use Rattle.value.specs.Membership.{one_of, Sets-stand}
 use Rattle.value.proofs.Cases.{each_bits, each_digit}
 use Rattle.value.proofs.Table.{smallest_has}
 
-or_bit : (x y : ℕ) → x < 2 → y < 2 → eqb (bit_or x y) 1 ≡ (eqb x 1 || eqb y 1)
-or_bit = each_bits (λ x y. eqb (bit_or x y) 1 ≡ (eqb x 1 || eqb y 1)) refl refl refl refl
-
-and_bit : (x y : ℕ) → x < 2 → y < 2 → eqb (bit_and x y) 1 ≡ (eqb x 1 && eqb y 1)
-and_bit = each_bits (λ x y. eqb (bit_and x y) 1 ≡ (eqb x 1 && eqb y 1)) refl refl refl refl
-
-xor_bit : (x y : ℕ) → x < 2 → y < 2 → eqb (bit_xor x y) 1 ≡ one_of (eqb x 1) (eqb y 1)
-xor_bit = each_bits (λ x y. eqb (bit_xor x y) 1 ≡ one_of (eqb x 1) (eqb y 1)) refl refl refl refl
-
--- an operation that works on each place alone says of a digit what it says of two bits
-module _ (f : ℕ → ℕ → ℕ) (g : Bool → Bool → Bool)
-    (shr : (a b k : ℕ) → f a b / 2 ^ k ≡ f (a / 2 ^ k) (b / 2 ^ k))
-    (low : (a b k : ℕ) → f a b % 2 ^ k ≡ f (a % 2 ^ k) (b % 2 ^ k))
-    (at-bit : (x y : ℕ) → x < 2 → y < 2 → eqb (f x y) 1 ≡ g (eqb x 1) (eqb y 1)) where
+-- what an operation makes of the bits at a place it says of a digit
+module _ (f m : ℕ → ℕ → ℕ) (g : Bool → Bool → Bool)
+    (at : (a b i : ℕ) → bit_at (f a b) i ≡ m (bit_at a i) (bit_at b i))
+    (bits : (x y : ℕ) → x < 2 → y < 2 → eqb (m x y) 1 ≡ g (eqb x 1) (eqb y 1)) where
   by_bit : (a b d : ℕ) → has (f a b) d ≡ g (has a d) (has b d)
-  by_bit a b d =
-      let k = d - 1 in
-      ap (λ (x : ℕ). eqb (x % 2) 1) (shr a b k) ∙ ap (λ (x : ℕ). eqb x 1) (low (a / 2 ^ k) (b / 2 ^ k) 1)
-      ∙ at-bit (a / 2 ^ k % 2) (b / 2 ^ k % 2) (mod-lt (a / 2 ^ k) (lit< tt)) (mod-lt (b / 2 ^ k) (lit< tt))
+  by_bit a b d = let k = d - 1 in ap (λ x. eqb x 1) (at a b k) ∙ bits (bit_at a k) (bit_at b k) (bit_at-lt a k) (bit_at-lt b k)
 
 union_has : (a b d : ℕ) → has (union_of a b) d ≡ (has a d || has b d)
-union_has = by_bit bit_or ◌||◌ or_shr or_mod or_bit
+union_has = by_bit bit_or max ◌||◌ bit_at_or (each_bits (λ x y. eqb (max x y) 1 ≡ (eqb x 1 || eqb y 1)) refl refl refl refl)
 
 pub common_has : (a b d : ℕ) → has (common a b) d ≡ (has a d && has b d)
-common_has = by_bit bit_and ◌&&◌ and_shr and_mod and_bit
+common_has = by_bit bit_and min ◌&&◌ bit_at_and (each_bits (λ x y. eqb (min x y) 1 ≡ (eqb x 1 && eqb y 1)) refl refl refl refl)
 
 one_has : (a b d : ℕ) → has (in_just_one a b) d ≡ one_of (has a d) (has b d)
-one_has = by_bit bit_xor one_of xor_shr xor_mod xor_bit
+one_has = by_bit bit_xor (λ x y. (x + y) % 2) one_of bit_at_xor (each_bits (λ x y. eqb ((x + y) % 2) 1 ≡ one_of (eqb x 1) (eqb y 1)) refl refl refl refl)
 
 -- all nine digits are in 511
 all_has : (d : ℕ) → 1 ≤ d → d ≤ 9 → has 511 d ≡ true

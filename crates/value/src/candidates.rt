@@ -24,24 +24,25 @@ impl Value for Candidates {
     ghost truly = { Prim.search rules };
 
     fn literal(n: u32) -> Candidates {
-        Candidates(DigitSet::of(n).plain())
+        Candidates(DigitSet::from(n).into())
     }
 
     fn combine(op: u8, a: Candidates, b: Candidates) -> Candidates {
-        let x = DigitSet::of(a.0);
-        let y = DigitSet::of(b.0);
+        let x = DigitSet::from(a.0);
+        let y = DigitSet::from(b.0);
+        // Any byte may come as an operation, and means another one for numbers, so no enum names them.
         let z = match op {
-            0 => x.union(y),
-            1 => x.without(y),
-            2 => x.intersection(y),
-            3 => x.in_just_one(y),
+            0 => x | y,
+            1 => x - y,
+            2 => x & y,
+            3 => x ^ y,
             4 => DigitSet::one_if(x.lies_within(y)),
-            5 => DigitSet::one_if(x.same_as(y)),
-            6 => x.union(y).complement(),
+            5 => DigitSet::one_if(x == y),
+            6 => !(x | y),
             7 => x.smallest(),
-            _ => DigitSet::of(0),
+            _ => DigitSet::from(0),
         };
-        Candidates(z.plain())
+        Candidates(z.into())
     }
 
     fn truth(self) -> bool {
@@ -49,7 +50,7 @@ impl Value for Candidates {
     }
 
     fn code(self) -> u32 {
-        DigitSet::of(self.0).plain()
+        DigitSet::from(self.0).into()
     }
 }
 

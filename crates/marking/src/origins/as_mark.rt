@@ -35,18 +35,22 @@ impl Mark for Origins {
     ghost low = { Prim.search rules };
 
     fn none() -> Origins {
-        Origins::of(0)
+        Origins { members: 0 }
     }
 
     fn own(cell: u8) -> Origins {
-        Origins::of(bit_of(cell))
+        Origins {
+            members: bit_of(cell),
+        }
     }
 
     fn join(self, other: Origins) -> Origins {
-        Origins::of(self.members | other.members)
+        Origins {
+            members: self.members | other.members,
+        }
     }
 
     fn at_least(self, other: Origins) -> bool {
-        self.join(other).same_as(self)
+        self.join(other) == self
     }
 }
