@@ -95,6 +95,10 @@ taken v ts (suc n) s = cond (is_over (length ts) s) 0 (1 + taken v ts n (next v 
 abbrev pub cleared : Registers
 cleared = record { flags = replicate 7 false; guards = replicate 7 false; counters = replicate 7 0; loops = replicate 6 0 }
 
+-- where a run is before its first step
+abbrev pub at_first : Track
+at_first = record { place = 0; registers = cleared; latch = None; broken = None }
+
 -- a run before its first step
 abbrev pub fresh : List ℕ → State
 fresh w = at 0 cleared None w

@@ -7,7 +7,7 @@ use Rattle.onepath.specs.Converting.{covers, Covered, Stepped}
 use Rattle.onepath.specs.declared.steps.Step.{Step}
 use Rattle.protocol.specs.Terms.{is_in}
 use Rattle.protocol.specs.declared.calls.Phase.TheVariants.{Laying}
-use Rattle.round.specs.Rounds.{at_first}
+use Rattle.run.specs.Machine.{at_first}
 use Rattle.session.specs.declared.opening.Lent.{Lent}
 use Rattle.session.specs.declared.faults.OpenFault.{OpenFault}
 use Rattle.round.specs.declared.records.Record.{Record}
