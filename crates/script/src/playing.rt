@@ -7,7 +7,7 @@ use crate::telling::{both, cards_alike, cards_line, pair_text, refusal_text, rou
 use crate::watching::Shown;
 use onepath::Step;
 use protocol::{Answer, Call};
-use session::{PlayFault, play_list, play_pair};
+use session::{Board, PlayFault, Side, play_list, play_pair};
 use sheet::Line;
 use std::alloc::{AllocError, Global};
 use value::{Candidates, Number, Value};
@@ -102,15 +102,21 @@ fn play_one<V: Value, W: Watcher + Shown + Drop>(
     let mut hand = hand_for::<V>(heap, script, script.first.as_slice())?;
     let played = play_list(
         script.sheet.as_slice(),
-        &mut tables.lines,
-        &mut tables.marks,
-        &mut tables.steps,
-        &mut hand.setter,
-        &mut hand.working,
+        &mut session::Tables {
+            lines: &mut tables.lines,
+            marks: &mut tables.marks,
+            steps: &mut tables.steps,
+        },
         script.tries,
-        &mut watcher,
+        &mut Side {
+            board: Board {
+                setter: &mut hand.setter,
+                working: &mut hand.working,
+                watcher: &mut watcher,
+            },
+            answers: &mut hand.answers,
+        },
         script.calls.as_slice(),
-        &mut hand.answers,
     );
     if let Err(fault) = played {
         return refused_play(heap, fault);
@@ -134,19 +140,29 @@ fn play_hands<V: Value, W: Watcher>(
 ) -> Result<(), PlayFault> {
     play_pair(
         script.sheet.as_slice(),
-        &mut tables.lines,
-        &mut tables.marks,
-        &mut tables.steps,
-        &mut one.setter,
-        &mut one.working,
-        &mut other.setter,
-        &mut other.working,
+        &mut session::Tables {
+            lines: &mut tables.lines,
+            marks: &mut tables.marks,
+            steps: &mut tables.steps,
+        },
         script.tries,
-        first,
-        second,
+        &mut Side {
+            board: Board {
+                setter: &mut one.setter,
+                working: &mut one.working,
+                watcher: first,
+            },
+            answers: &mut one.answers,
+        },
+        &mut Side {
+            board: Board {
+                setter: &mut other.setter,
+                working: &mut other.working,
+                watcher: second,
+            },
+            answers: &mut other.answers,
+        },
         script.calls.as_slice(),
-        &mut one.answers,
-        &mut other.answers,
     )
 }
 
