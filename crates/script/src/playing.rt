@@ -7,7 +7,7 @@ use crate::telling::{both, cards_alike, cards_line, pair_text, refusal_text, rou
 use crate::watching::Shown;
 use onepath::Step;
 use protocol::{Answer, Call};
-use session::{Board, PlayFault, Side, play_list, play_pair};
+use session::{Board, PlayFault, play_list, play_pair};
 use sheet::Line;
 use std::alloc::{AllocError, Global};
 use value::{Candidates, Number, Value};
@@ -108,15 +108,13 @@ fn play_one<V: Value, W: Watcher + Shown + Drop>(
             steps: &mut tables.steps,
         },
         script.tries,
-        &mut Side {
-            board: Board {
-                setter: &mut hand.setter,
-                working: &mut hand.working,
-                watcher: &mut watcher,
-            },
-            answers: &mut hand.answers,
+        &mut Board {
+            setter: &mut hand.setter,
+            working: &mut hand.working,
+            watcher: &mut watcher,
         },
         script.calls.as_slice(),
+        &mut hand.answers,
     );
     if let Err(fault) = played {
         return refused_play(heap, fault);
@@ -146,23 +144,19 @@ fn play_hands<V: Value, W: Watcher>(
             steps: &mut tables.steps,
         },
         script.tries,
-        &mut Side {
-            board: Board {
-                setter: &mut one.setter,
-                working: &mut one.working,
-                watcher: first,
-            },
-            answers: &mut one.answers,
+        &mut Board {
+            setter: &mut one.setter,
+            working: &mut one.working,
+            watcher: first,
         },
-        &mut Side {
-            board: Board {
-                setter: &mut other.setter,
-                working: &mut other.working,
-                watcher: second,
-            },
-            answers: &mut other.answers,
+        &mut Board {
+            setter: &mut other.setter,
+            working: &mut other.working,
+            watcher: second,
         },
         script.calls.as_slice(),
+        &mut one.answers,
+        &mut other.answers,
     )
 }
 

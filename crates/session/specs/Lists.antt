@@ -15,7 +15,6 @@ use Rattle.protocol.specs.declared.calls.Call.{Call}
 use Rattle.protocol.specs.declared.refusals.Refusal.{Refusal}
 use Rattle.round.specs.Rounds.{terms_of, stand_of}
 use Rattle.session.specs.declared.lists.Board.{Board}
-use Rattle.session.specs.declared.lists.Side.{Side}
 use Rattle.session.specs.declared.faults.PlayFault.{PlayFault}
 use Rattle.session.specs.declared.faults.PlayFault.TheVariants.{Answers}
 use Rattle.round.specs.declared.records.Record.{Record}
@@ -42,9 +41,6 @@ desk_at r b = desk_of r b.setter.now b.working.now b.watcher.now
 -- the same loans, whatever they hold
 abbrev pub SameBoard : {V W : Type 0} → Board V W → Board V W → Type 0
 SameBoard b c = (c.setter.ghost_name ≡ b.setter.ghost_name) × (c.working.ghost_name ≡ b.working.ghost_name) × (c.watcher.ghost_name ≡ b.watcher.ghost_name)
-
-abbrev pub SameSide : {V W : Type 0} → Side V W → Side V W → Type 0
-SameSide s t = SameBoard s.board t.board × (t.answers.ghost_name ≡ s.answers.ghost_name)
 
 -- The answer to one call and how the round then stands are as defined, and the terms stay.
 pub record Hears {V W : Type 0} (g : Ghosts V) (h : WatcherGhosts W) (table : List Step) (before after' : Desk V W) (c : Call) (a : Answer) : Type 0 where

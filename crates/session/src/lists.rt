@@ -1,7 +1,7 @@
 // Calls and answers as records, one by one and in lists.
 ghost use Rattle.std.specs.Prelude.{◌≡◌, ◌≤◌, length};
 ghost use Rattle.sheet.specs.Results.{found};
-ghost use Rattle.session.specs.Lists.{recorded, desk_of, desk_at, SameBoard, SameSide, Hears, HearsAll, list_fault, Lists};
+ghost use Rattle.session.specs.Lists.{recorded, desk_of, desk_at, SameBoard, Hears, HearsAll, list_fault, Lists};
 
 use crate::faults::PlayFault;
 use onepath::Step;
@@ -16,13 +16,6 @@ pub struct Board<'a, V, W> {
     pub setter: &'a mut [V],
     pub working: &'a mut [V],
     pub watcher: &'a mut W,
-}
-
-// What one player lends: the board, and a place for each answer.
-#[derive(Drop)]
-pub struct Side<'a, V, W> {
-    pub board: Board<'a, V, W>,
-    pub answers: &'a mut [Answer],
 }
 
 // What one call comes to: the phase and the call together decide. The parts of a board come one by one, since most calls
@@ -90,17 +83,17 @@ pub fn answer_call<V: Value, W: Watcher>(
 pub(crate) fn answer_all<V: Value, W: Watcher>(
     round: &mut Round,
     steps: &[Step],
-    side: &mut Side<V, W>,
+    board: &mut Board<V, W>,
     calls: &[Call],
+    answers: &mut [Answer],
 )
-    requires { length calls.now ≤ length side.old.answers.now }
-    ensures hears { HearsAll V.Value W.Watcher steps.now (desk_at round.old.at side.old.board) (desk_at round.new.at side.new.board) calls.now side.old.answers.now side.new.answers.now }
-    ensures same { SameSide side.old side.new }
-    ensures loan { W.Watcher.loan side.new.board.watcher.now ≡ W.Watcher.loan side.old.board.watcher.now }
+    requires { length calls.now ≤ length answers.old }
+    ensures hears { HearsAll V.Value W.Watcher steps.now (desk_at round.old.at board.old) (desk_at round.new.at board.new) calls.now answers.old answers.new }
+    ensures same { SameBoard board.old board.new }
+    ensures loan { W.Watcher.loan board.new.watcher.now ≡ W.Watcher.loan board.old.watcher.now }
 {
     for (i, call) in calls.iter().enumerate() {
-        let answer = answer_call(round, steps, &mut side.board, *call);
-        side.answers[i] = answer;
+        answers[i] = answer_call(round, steps, board, *call);
     }
 }
 
@@ -108,17 +101,18 @@ pub(crate) fn answer_all<V: Value, W: Watcher>(
 pub fn run_list<V: Value, W: Watcher>(
     round: &mut Round,
     steps: &[Step],
-    side: &mut Side<V, W>,
+    board: &mut Board<V, W>,
     calls: &[Call],
+    answers: &mut [Answer],
 ) -> Result<(), PlayFault>
-    ensures first { found result ≡ list_fault (length calls.now) (length side.old.answers.now) }
-    ensures lists { Lists V.Value W.Watcher steps.now (desk_at round.old.at side.old.board) (desk_at round.new.at side.new.board) calls.now side.old.answers.now side.new.answers.now result }
-    ensures same { SameSide side.old side.new }
-    ensures loan { W.Watcher.loan side.new.board.watcher.now ≡ W.Watcher.loan side.old.board.watcher.now }
+    ensures first { found result ≡ list_fault (length calls.now) (length answers.old) }
+    ensures lists { Lists V.Value W.Watcher steps.now (desk_at round.old.at board.old) (desk_at round.new.at board.new) calls.now answers.old answers.new result }
+    ensures same { SameBoard board.old board.new }
+    ensures loan { W.Watcher.loan board.new.watcher.now ≡ W.Watcher.loan board.old.watcher.now }
 {
-    if side.answers.len() < calls.len() {
+    if answers.len() < calls.len() {
         return Err(PlayFault::Answers);
     }
-    answer_all(round, steps, side, calls);
+    answer_all(round, steps, board, calls, answers);
     Ok(())
 }

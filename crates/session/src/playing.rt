@@ -1,32 +1,33 @@
 // Opening a round and playing a list on it; and one list on two rounds.
 ghost use Rattle.std.specs.Prelude.{◌≡◌, ◌≤◌, length};
 ghost use Rattle.sheet.specs.Results.{found};
-ghost use Rattle.session.specs.Lists.{desk_at, SameSide, HearsAll};
+ghost use Rattle.session.specs.Lists.{desk_at, SameBoard, HearsAll};
 ghost use Rattle.session.specs.Opening.{holds, lent_by, SameTables};
-ghost use Rattle.session.specs.Playing.{play_fault, pair_fault, brings, Plays, PlaysBoth};
+ghost use Rattle.session.specs.Playing.{play_fault, pair_fault, side_at, Plays, PlaysBoth};
 
 use crate::faults::PlayFault;
-use crate::lists::{Side, answer_all};
+use crate::lists::{Board, answer_all};
 use crate::opening::{Lent, Tables, check_opening, open_with};
-use protocol::Call;
+use protocol::{Answer, Call};
 use round::Round;
 use value::Value;
 use watch::Watcher;
 
-// Plays all the calls on a player's round.
-fn play_side<V: Value, W: Watcher>(
+// Plays all the calls, by the steps in the tables.
+fn play_calls<V: Value, W: Watcher>(
     round: &mut Round,
     tables: &Tables,
-    side: &mut Side<V, W>,
+    board: &mut Board<V, W>,
     calls: &[Call],
+    answers: &mut [Answer],
 )
-    requires { length calls.now ≤ length side.old.answers.now }
-    ensures hears { HearsAll V.Value W.Watcher tables.now.steps.now (desk_at round.old.at side.old.board) (desk_at round.new.at side.new.board) calls.now side.old.answers.now side.new.answers.now }
-    ensures same { SameSide side.old side.new }
-    ensures loan { W.Watcher.loan side.new.board.watcher.now ≡ W.Watcher.loan side.old.board.watcher.now }
+    requires { length calls.now ≤ length answers.old }
+    ensures hears { HearsAll V.Value W.Watcher tables.now.steps.now (desk_at round.old.at board.old) (desk_at round.new.at board.new) calls.now answers.old answers.new }
+    ensures same { SameBoard board.old board.new }
+    ensures loan { W.Watcher.loan board.new.watcher.now ≡ W.Watcher.loan board.old.watcher.now }
 {
     let steps = &*tables.steps;
-    answer_all(round, steps, side, calls);
+    answer_all(round, steps, board, calls, answers);
 }
 
 // Opens a round and plays a list of calls on it. What is told after each call is what the plain round tells, is alike
@@ -35,23 +36,24 @@ pub fn play_list<V: Value, W: Watcher>(
     bytes: &[u8],
     tables: &mut Tables,
     tries: u32,
-    side: &mut Side<V, W>,
+    board: &mut Board<V, W>,
     calls: &[Call],
+    answers: &mut [Answer],
 ) -> Result<(), PlayFault>
-    ensures first { found result ≡ play_fault bytes.now (lent_by (holds tables.old) (length side.old.board.setter.now) (length side.old.board.working.now)) tries (length calls.now) (length side.old.answers.now) }
-    ensures plays { Plays V.Value W.Watcher bytes.now (holds tables.old) (holds tables.new) tries (brings side.old) (brings side.new) calls.now result }
+    ensures first { found result ≡ play_fault bytes.now (lent_by (holds tables.old) (length board.old.setter.now) (length board.old.working.now)) tries (length calls.now) (length answers.old) }
+    ensures plays { Plays V.Value W.Watcher bytes.now (holds tables.old) (holds tables.new) tries (side_at board.old answers.old) (side_at board.new answers.new) calls.now result }
     ensures same_tables { SameTables tables.old tables.new }
-    ensures same_side { SameSide side.old side.new }
-    ensures loan { W.Watcher.loan side.new.board.watcher.now ≡ W.Watcher.loan side.old.board.watcher.now }
+    ensures same_board { SameBoard board.old board.new }
+    ensures loan { W.Watcher.loan board.new.watcher.now ≡ W.Watcher.loan board.old.watcher.now }
 {
-    let setter = side.board.setter.len();
-    let working = side.board.working.len();
+    let setter = board.setter.len();
+    let working = board.working.len();
     check_opening(bytes, Lent::of(tables, setter, working), tries)?;
-    if side.answers.len() < calls.len() {
+    if answers.len() < calls.len() {
         return Err(PlayFault::Answers);
     }
     let mut round = open_with(bytes, tables, setter, working, tries)?;
-    play_side(&mut round, tables, side, calls);
+    play_calls(&mut round, tables, board, calls, answers);
     Ok(())
 }
 
@@ -61,31 +63,29 @@ pub fn play_pair<V: Value, W: Watcher>(
     bytes: &[u8],
     tables: &mut Tables,
     tries: u32,
-    first: &mut Side<V, W>,
-    second: &mut Side<V, W>,
+    first: &mut Board<V, W>,
+    second: &mut Board<V, W>,
     calls: &[Call],
+    first_answers: &mut [Answer],
+    second_answers: &mut [Answer],
 ) -> Result<(), PlayFault>
-    ensures first { found result ≡ pair_fault bytes.now (lent_by (holds tables.old) (length first.old.board.setter.now) (length first.old.board.working.now)) (lent_by (holds tables.old) (length second.old.board.setter.now) (length second.old.board.working.now)) tries (length calls.now) (length first.old.answers.now) (length second.old.answers.now) }
-    ensures plays { PlaysBoth V.Value W.Watcher bytes.now (holds tables.old) (holds tables.new) tries (brings first.old) (brings first.new) (brings second.old) (brings second.new) calls.now result }
+    ensures first { found result ≡ pair_fault bytes.now (lent_by (holds tables.old) (length first.old.setter.now) (length first.old.working.now)) (lent_by (holds tables.old) (length second.old.setter.now) (length second.old.working.now)) tries (length calls.now) (length first_answers.old) (length second_answers.old) }
+    ensures plays { PlaysBoth V.Value W.Watcher bytes.now (holds tables.old) (holds tables.new) tries (side_at first.old first_answers.old) (side_at first.new first_answers.new) (side_at second.old second_answers.old) (side_at second.new second_answers.new) calls.now result }
     ensures same_tables { SameTables tables.old tables.new }
-    ensures same_sides { SameSide first.old first.new × SameSide second.old second.new }
-    ensures loans { (W.Watcher.loan first.new.board.watcher.now ≡ W.Watcher.loan first.old.board.watcher.now) × (W.Watcher.loan second.new.board.watcher.now ≡ W.Watcher.loan second.old.board.watcher.now) }
+    ensures same_boards { SameBoard first.old first.new × SameBoard second.old second.new }
+    ensures loans { (W.Watcher.loan first.new.watcher.now ≡ W.Watcher.loan first.old.watcher.now) × (W.Watcher.loan second.new.watcher.now ≡ W.Watcher.loan second.old.watcher.now) }
 {
-    let setter = first.board.setter.len();
-    let working = first.board.working.len();
+    let setter = first.setter.len();
+    let working = first.working.len();
     check_opening(bytes, Lent::of(tables, setter, working), tries)?;
-    let other_lent = Lent::of(
-        tables,
-        second.board.setter.len(),
-        second.board.working.len(),
-    );
+    let other_lent = Lent::of(tables, second.setter.len(), second.working.len());
     check_opening(bytes, other_lent, tries)?;
-    if first.answers.len() < calls.len() || second.answers.len() < calls.len() {
+    if first_answers.len() < calls.len() || second_answers.len() < calls.len() {
         return Err(PlayFault::Answers);
     }
     let mut round = open_with(bytes, tables, setter, working, tries)?;
     let mut other = round.again(tries);
-    play_side(&mut round, tables, first, calls);
-    play_side(&mut other, tables, second, calls);
+    play_calls(&mut round, tables, first, calls, first_answers);
+    play_calls(&mut other, tables, second, calls, second_answers);
     Ok(())
 }
