@@ -1,4 +1,5 @@
 // The six calls. Each checks the phase first, then what is lent, then what is asked; a refused call moves nothing.
+// Each is lent what it reads or writes, and no more, so each takes slices of its own.
 ghost use Rattle.std.specs.Prelude.{◌≡◌, ◌-◌, map, length, take};
 ghost use Rattle.run.specs.Machine.{state_of};
 ghost use Rattle.run.specs.Values.{kind_of, cell_at, stated};
@@ -26,9 +27,9 @@ pub fn put<V: Value>(
     ensures after { map V.Value.meaning setter.new ≡ moved (put_says V.Value round.now.at (length setter.old) cell) (stated (kind_of V.Value) cell number (map V.Value.meaning setter.old)) (map V.Value.meaning setter.old) }
     ensures still { Still (put_says V.Value round.now.at (length setter.old) cell) setter.old setter.new }
 {
-    round.at.is_laid_out()?;
-    round.at.takes_setter_cells(setter.len())?;
-    round.at.has_cell(cell)?;
+    round.at.check_laying()?;
+    round.at.check_setter_cells(setter.len())?;
+    round.at.check_cell(cell)?;
     if round.at.secrets.is_marked(cell) {
         return Err(Refusal::Marked { cell });
     }
@@ -42,9 +43,9 @@ pub fn start<V: Value>(round: &mut Round, setter: &[V], working: &mut [V]) -> Re
     ensures after { round.new.at ≡ moved (start_says V.Value round.old.at (length setter.now) (length working.old)) (started round.old.at) round.old.at }
     ensures cells { working.new ≡ moved (start_says V.Value round.old.at (length setter.now) (length working.old)) setter.now working.old }
 {
-    round.at.is_laid_out()?;
-    round.at.takes_setter_cells(setter.len())?;
-    round.at.takes_working_cells(working.len())?;
+    round.at.check_laying()?;
+    round.at.check_setter_cells(setter.len())?;
+    round.at.check_working_cells(working.len())?;
     if round.at.tries == 0 {
         return Err(Refusal::NoTries);
     }
@@ -71,8 +72,8 @@ pub fn advance<V: Value, W: Watcher>(
     ensures watcher { Still (advance_says V.Value round.old.at (length working.old)) watcher.old watcher.new }
     ensures loan { W.Watcher.loan watcher.new ≡ W.Watcher.loan watcher.old }
 {
-    round.at.is_in_play()?;
-    round.at.takes_working_cells(working.len())?;
+    round.at.check_in_play()?;
+    round.at.check_working_cells(working.len())?;
     let mut track = round.at.track;
     let own = front(steps, round.at.steps);
     let told = walk(&mut track, own, working, watcher, count);
@@ -84,9 +85,9 @@ pub fn advance<V: Value, W: Watcher>(
 pub fn look<V: Value>(round: &Round, working: &[V], cell: usize) -> Result<u32, Refusal>
     ensures { result ≡ answered (look_says V.Value round.now.at (length working.now) cell) (cell_at (kind_of V.Value) (map V.Value.meaning working.now) cell) }
 {
-    round.at.is_in_play()?;
-    round.at.takes_working_cells(working.len())?;
-    round.at.has_cell(cell)?;
+    round.at.check_in_play()?;
+    round.at.check_working_cells(working.len())?;
+    round.at.check_cell(cell)?;
     if round.at.secrets.is_covered(cell) {
         return Err(Refusal::Covered { cell });
     }
@@ -105,7 +106,7 @@ pub fn withdraw(round: &mut Round) -> Result<(), Refusal>
     ensures answer { result ≡ answered (withdraw_says round.old.at) tt }
     ensures after { round.new.at ≡ moved (withdraw_says round.old.at) (phased Laying round.old.at) round.old.at }
 {
-    round.at.is_in_play()?;
+    round.at.check_in_play()?;
     // A try that is given up is spent.
     end_run(round);
     Ok(())
@@ -116,8 +117,8 @@ pub fn score<V: Value>(round: &mut Round, steps: &[Step], working: &[V]) -> Resu
     ensures answer { result ≡ answered (score_says V.Value round.old.at steps.now working.now) (path_score (terms_of V.Value round.old.at steps.now) (state_of V.Value round.old.at.track working.now)) }
     ensures after { round.new.at ≡ moved (score_says V.Value round.old.at steps.now working.now) (phased Laying round.old.at) round.old.at }
 {
-    round.at.is_in_play()?;
-    round.at.takes_working_cells(working.len())?;
+    round.at.check_in_play()?;
+    round.at.check_working_cells(working.len())?;
     if !is_over(&round.at.track, front(steps, round.at.steps).len()) {
         return Err(Refusal::Early);
     }

@@ -23,9 +23,9 @@ pub struct Record {
     pub(crate) track: Track,
 }
 
-// What several calls ask of the record and of what they are lent.
+// What several calls check first, each with its refusal.
 impl Record {
-    pub(crate) fn is_laid_out(&self) -> Result<(), Refusal>
+    pub(crate) fn check_laying(&self) -> Result<(), Refusal>
         ensures { MatchResult result (λ _. self.now.phase ≡ Laying) (λ e. (self.now.phase ≡ InPlay) × (e ≡ WrongPhase)) }
     {
         match self.phase {
@@ -34,7 +34,7 @@ impl Record {
         }
     }
 
-    pub(crate) fn is_in_play(&self) -> Result<(), Refusal>
+    pub(crate) fn check_in_play(&self) -> Result<(), Refusal>
         ensures { MatchResult result (λ _. self.now.phase ≡ InPlay) (λ e. (self.now.phase ≡ Laying) × (e ≡ WrongPhase)) }
     {
         match self.phase {
@@ -43,7 +43,7 @@ impl Record {
         }
     }
 
-    pub(crate) fn takes_setter_cells(&self, count: usize) -> Result<(), Refusal>
+    pub(crate) fn check_setter_cells(&self, count: usize) -> Result<(), Refusal>
         ensures { MatchResult result (λ _. count ≡ self.now.cells) (λ e. (count ≢ self.now.cells) × (e ≡ SetterCells)) }
     {
         if count != self.cells {
@@ -52,7 +52,7 @@ impl Record {
         Ok(())
     }
 
-    pub(crate) fn takes_working_cells(&self, count: usize) -> Result<(), Refusal>
+    pub(crate) fn check_working_cells(&self, count: usize) -> Result<(), Refusal>
         ensures { MatchResult result (λ _. count ≡ self.now.cells) (λ e. (count ≢ self.now.cells) × (e ≡ WorkingCells)) }
     {
         if count != self.cells {
@@ -61,7 +61,7 @@ impl Record {
         Ok(())
     }
 
-    pub(crate) fn has_cell(&self, cell: usize) -> Result<(), Refusal>
+    pub(crate) fn check_cell(&self, cell: usize) -> Result<(), Refusal>
         ensures { MatchResult result (λ _. cell < self.now.cells) (λ e. (self.now.cells ≤ cell) × (e ≡ NoCell cell)) }
     {
         if cell >= self.cells {

@@ -4,6 +4,7 @@ ghost use Rattle.round.specs.Tables.{Marks, Pads};
 
 use crate::slices::front;
 
+// Two lists and not one of pairs: the rules speak of the marked cells and of the covered ones apart, each as a list.
 #[derive(Clone, Copy)]
 pub struct Secrets {
     pub(crate) marked: [bool; 64],
@@ -36,7 +37,7 @@ impl Secrets {
     }
 }
 
-// Yes at the cell, if the table has it.
+// Yes at the cell, if the table has it. It is written by index, since no contract of `get_mut` says what it leaves.
 fn set_yes(table: &mut [bool], cell: usize)
     ensures { table.new ≡ slice_set table.old cell true }
 {
