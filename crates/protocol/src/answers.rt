@@ -1,8 +1,10 @@
 // What a round answers.
 ghost use Rattle.std.specs.Prelude.{◌≡◌};
+ghost use Rattle.protocol.specs.Calls.{score_of};
 ghost use Rattle.protocol.specs.Numbers.{ending_number, ending_line, score_number, walk_numbers, refusal_of, numbers_of};
 
 use crate::refusals::Refusal;
+use run::Verdict;
 use sheet::Fault;
 
 // What a run of a sheet comes to, as it is told.
@@ -43,6 +45,18 @@ pub enum Answer {
     Shown { code: u32 },
     Scored { score: Score },
     Refused { refusal: Refusal },
+}
+
+impl From<Verdict> for Score {
+    ghost from_gives = { λ v s. s ≡ score_of v };
+
+    fn from(verdict: Verdict) -> Score {
+        match verdict {
+            Verdict::Right => Score::Right,
+            Verdict::Wrong => Score::Wrong,
+            Verdict::Void { line: _ } => Score::Void,
+        }
+    }
 }
 
 impl Score {

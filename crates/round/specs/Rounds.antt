@@ -4,7 +4,7 @@ use Rattle.onepath.specs.declared.paths.OnePath.{OnePath}
 use Rattle.onepath.specs.declared.steps.Step.{Step}
 use Rattle.value.specs.declared.kinds.Value.{Ghosts}
 use Rattle.watch.specs.declared.watchers.Watcher.{Ghosts as WatcherGhosts}
-use Rattle.run.specs.Machine.{cleared, state_of}
+use Rattle.run.specs.Machine.{at_first, state_of}
 use Rattle.run.specs.Values.{kind_of}
 use Rattle.run.specs.declared.track.Track.{Track}
 use Rattle.protocol.specs.Advancing.{Walk, advanced}
@@ -41,10 +41,6 @@ phased h r = record { phase = h; tries = r.tries; cells = r.cells; steps = r.ste
 
 abbrev pub tracked : Track → Record → Record
 tracked k r = record { phase = r.phase; tries = r.tries; cells = r.cells; steps = r.steps; verdict = r.verdict; secrets = r.secrets; track = k }
-
--- where a run is before its first step
-abbrev pub at_first : Track
-at_first = record { place = 0; registers = cleared; latch = None; broken = None }
 
 -- the record of a new round of the same sheet; no round has more than 100 tries
 abbrev pub renewed : Record → ℕ → Record

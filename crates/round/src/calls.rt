@@ -1,16 +1,18 @@
 // The six calls. Each checks the phase first, then what is lent, then what is asked; a refused call moves nothing.
+// Each is lent what it reads or writes, and no more, so each takes slices of its own.
 ghost use Rattle.std.specs.Prelude.{◌≡◌, ◌-◌, map, length, take};
 ghost use Rattle.run.specs.Machine.{state_of};
 ghost use Rattle.run.specs.Values.{kind_of, cell_at, stated};
-ghost use Rattle.protocol.specs.Calls.{score_of, path_score, told_of, moved, answered, Still};
+ghost use Rattle.protocol.specs.Calls.{path_score, told_of, moved, answered, Still};
 ghost use Rattle.protocol.specs.declared.calls.Phase.TheVariants.{Laying};
 ghost use Rattle.round.specs.Rounds.{terms_of, phased, tracked, started, put_says, start_says, advance_says, look_says, withdraw_says, score_says, walk_of};
 
-use crate::records::{Round, first_track};
+use crate::records::Round;
+use crate::slices::front;
 use crate::walking::walk;
 use onepath::Step;
 use protocol::{Advanced, Phase, Refusal, Score};
-use run::{Verdict, cell as cell_of, is_over, path_verdict, write};
+use run::{Track, cell as cell_of, is_over, path_verdict, write};
 use value::Value;
 use watch::Watcher;
 
@@ -25,15 +27,9 @@ pub fn put<V: Value>(
     ensures after { map V.Value.meaning setter.new ≡ moved (put_says V.Value round.now.at (length setter.old) cell) (stated (kind_of V.Value) cell number (map V.Value.meaning setter.old)) (map V.Value.meaning setter.old) }
     ensures still { Still (put_says V.Value round.now.at (length setter.old) cell) setter.old setter.new }
 {
-    if let Phase::InPlay = round.at.phase {
-        return Err(Refusal::Phase);
-    }
-    if setter.len() != round.at.cells {
-        return Err(Refusal::SetterCells);
-    }
-    if cell >= round.at.cells {
-        return Err(Refusal::NoCell { cell });
-    }
+    round.at.check_laying()?;
+    round.at.check_setter_cells(setter.len())?;
+    round.at.check_cell(cell)?;
     if round.at.secrets.is_marked(cell) {
         return Err(Refusal::Marked { cell });
     }
@@ -47,34 +43,17 @@ pub fn start<V: Value>(round: &mut Round, setter: &[V], working: &mut [V]) -> Re
     ensures after { round.new.at ≡ moved (start_says V.Value round.old.at (length setter.now) (length working.old)) (started round.old.at) round.old.at }
     ensures cells { working.new ≡ moved (start_says V.Value round.old.at (length setter.now) (length working.old)) setter.now working.old }
 {
-    if let Phase::InPlay = round.at.phase {
-        return Err(Refusal::Phase);
-    }
-    if setter.len() != round.at.cells {
-        return Err(Refusal::SetterCells);
-    }
-    if working.len() != round.at.cells {
-        return Err(Refusal::WorkingCells);
-    }
+    round.at.check_laying()?;
+    round.at.check_setter_cells(setter.len())?;
+    round.at.check_working_cells(working.len())?;
     if round.at.tries == 0 {
         return Err(Refusal::NoTries);
     }
     working.copy_from_slice(setter);
     round.at.phase = Phase::InPlay;
     round.at.tries -= 1;
-    round.at.track = first_track();
+    round.at.track = Track::new();
     Ok(round.at.tries)
-}
-
-// The steps of the sheet, in the table that is lent.
-fn own_steps(steps: &[Step], count: usize) -> &[Step]
-    ensures { result.now ≡ take count steps.now }
-{
-    if count < steps.len() {
-        &steps[0..count]
-    } else {
-        steps
-    }
 }
 
 // Takes at most `count` steps of the run.
@@ -93,14 +72,10 @@ pub fn advance<V: Value, W: Watcher>(
     ensures watcher { Still (advance_says V.Value round.old.at (length working.old)) watcher.old watcher.new }
     ensures loan { W.Watcher.loan watcher.new ≡ W.Watcher.loan watcher.old }
 {
-    if let Phase::Laying = round.at.phase {
-        return Err(Refusal::Phase);
-    }
-    if working.len() != round.at.cells {
-        return Err(Refusal::WorkingCells);
-    }
+    round.at.check_in_play()?;
+    round.at.check_working_cells(working.len())?;
     let mut track = round.at.track;
-    let own = own_steps(steps, round.at.steps);
+    let own = front(steps, round.at.steps);
     let told = walk(&mut track, own, working, watcher, count);
     round.at.track = track;
     Ok(told)
@@ -110,15 +85,9 @@ pub fn advance<V: Value, W: Watcher>(
 pub fn look<V: Value>(round: &Round, working: &[V], cell: usize) -> Result<u32, Refusal>
     ensures { result ≡ answered (look_says V.Value round.now.at (length working.now) cell) (cell_at (kind_of V.Value) (map V.Value.meaning working.now) cell) }
 {
-    if let Phase::Laying = round.at.phase {
-        return Err(Refusal::Phase);
-    }
-    if working.len() != round.at.cells {
-        return Err(Refusal::WorkingCells);
-    }
-    if cell >= round.at.cells {
-        return Err(Refusal::NoCell { cell });
-    }
+    round.at.check_in_play()?;
+    round.at.check_working_cells(working.len())?;
+    round.at.check_cell(cell)?;
     if round.at.secrets.is_covered(cell) {
         return Err(Refusal::Covered { cell });
     }
@@ -137,21 +106,10 @@ pub fn withdraw(round: &mut Round) -> Result<(), Refusal>
     ensures answer { result ≡ answered (withdraw_says round.old.at) tt }
     ensures after { round.new.at ≡ moved (withdraw_says round.old.at) (phased Laying round.old.at) round.old.at }
 {
-    if let Phase::Laying = round.at.phase {
-        return Err(Refusal::Phase);
-    }
-    Ok(end_run(round))
-}
-
-// A verdict, as it is told.
-fn score_of(verdict: Verdict) -> Score
-    ensures { result ≡ score_of verdict }
-{
-    match verdict {
-        Verdict::Right => Score::Right,
-        Verdict::Wrong => Score::Wrong,
-        Verdict::Void { line: _ } => Score::Void,
-    }
+    round.at.check_in_play()?;
+    // A try that is given up is spent.
+    end_run(round);
+    Ok(())
 }
 
 // Tells the verdict of a run that is over, and ends it.
@@ -159,15 +117,12 @@ pub fn score<V: Value>(round: &mut Round, steps: &[Step], working: &[V]) -> Resu
     ensures answer { result ≡ answered (score_says V.Value round.old.at steps.now working.now) (path_score (terms_of V.Value round.old.at steps.now) (state_of V.Value round.old.at.track working.now)) }
     ensures after { round.new.at ≡ moved (score_says V.Value round.old.at steps.now working.now) (phased Laying round.old.at) round.old.at }
 {
-    if let Phase::Laying = round.at.phase {
-        return Err(Refusal::Phase);
-    }
-    if working.len() != round.at.cells {
-        return Err(Refusal::WorkingCells);
-    }
-    if !is_over(&round.at.track, own_steps(steps, round.at.steps).len()) {
+    round.at.check_in_play()?;
+    round.at.check_working_cells(working.len())?;
+    if !is_over(&round.at.track, front(steps, round.at.steps).len()) {
         return Err(Refusal::Early);
     }
     end_run(round);
-    Ok(score_of(path_verdict(&round.at.track, working, round.at.verdict)))
+    let verdict = path_verdict(&round.at.track, working, round.at.verdict);
+    Ok(Score::from(verdict))
 }

@@ -4,6 +4,7 @@
 mod calls;
 mod records;
 mod secrets;
+mod slices;
 mod walking;
 
 pub use calls::{advance, look, put, score, start, withdraw};

@@ -1,11 +1,13 @@
 // What a round keeps between two calls. The tables and the cells stay with the caller, who lends them to each call.
-ghost use Rattle.std.specs.Prelude.{◌≡◌, ◌≤◌};
-ghost use Rattle.round.specs.Rounds.{at_first, renewed, Begun};
+ghost use Rattle.std.specs.Prelude.{◌≡◌, ◌≢◌, ◌<◌, ◌≤◌, MatchResult};
+ghost use Rattle.protocol.specs.declared.calls.Phase.TheVariants.{Laying, InPlay};
+ghost use Rattle.protocol.specs.declared.refusals.Refusal.TheVariants.{SetterCells, WorkingCells, NoCell, Phase as WrongPhase};
+ghost use Rattle.round.specs.Rounds.{renewed, Begun};
 
 use crate::secrets::Secrets;
 use onepath::OnePath;
-use protocol::Phase;
-use run::{Registers, Track};
+use protocol::{Phase, Refusal};
+use run::Track;
 
 #[derive(Clone, Copy)]
 pub struct Record {
@@ -19,6 +21,54 @@ pub struct Record {
     pub(crate) secrets: Secrets,
     // Where the run is.
     pub(crate) track: Track,
+}
+
+// What several calls check first, each with its refusal.
+impl Record {
+    pub(crate) fn check_laying(&self) -> Result<(), Refusal>
+        ensures { MatchResult result (λ _. self.now.phase ≡ Laying) (λ e. (self.now.phase ≡ InPlay) × (e ≡ WrongPhase)) }
+    {
+        match self.phase {
+            Phase::Laying => Ok(()),
+            Phase::InPlay => Err(Refusal::Phase),
+        }
+    }
+
+    pub(crate) fn check_in_play(&self) -> Result<(), Refusal>
+        ensures { MatchResult result (λ _. self.now.phase ≡ InPlay) (λ e. (self.now.phase ≡ Laying) × (e ≡ WrongPhase)) }
+    {
+        match self.phase {
+            Phase::Laying => Err(Refusal::Phase),
+            Phase::InPlay => Ok(()),
+        }
+    }
+
+    pub(crate) fn check_setter_cells(&self, count: usize) -> Result<(), Refusal>
+        ensures { MatchResult result (λ _. count ≡ self.now.cells) (λ e. (count ≢ self.now.cells) × (e ≡ SetterCells)) }
+    {
+        if count != self.cells {
+            return Err(Refusal::SetterCells);
+        }
+        Ok(())
+    }
+
+    pub(crate) fn check_working_cells(&self, count: usize) -> Result<(), Refusal>
+        ensures { MatchResult result (λ _. count ≡ self.now.cells) (λ e. (count ≢ self.now.cells) × (e ≡ WorkingCells)) }
+    {
+        if count != self.cells {
+            return Err(Refusal::WorkingCells);
+        }
+        Ok(())
+    }
+
+    pub(crate) fn check_cell(&self, cell: usize) -> Result<(), Refusal>
+        ensures { MatchResult result (λ _. cell < self.now.cells) (λ e. (self.now.cells ≤ cell) × (e ≡ NoCell cell)) }
+    {
+        if cell >= self.cells {
+            return Err(Refusal::NoCell { cell });
+        }
+        Ok(())
+    }
 }
 
 // A record whose tries are never more than a round is opened with.
@@ -41,7 +91,7 @@ impl Round {
                 steps: path.steps,
                 verdict: path.sheet.verdict,
                 secrets: Secrets::of(path.sheet.marks, marks),
-                track: first_track(),
+                track: Track::new(),
             },
         }
     }
@@ -54,7 +104,7 @@ impl Round {
             at: Record {
                 phase: Phase::Laying,
                 tries: tries.min(100),
-                track: first_track(),
+                track: Track::new(),
                 ..self.at
             },
         }
@@ -64,17 +114,5 @@ impl Round {
         ensures { result ≡ self.now.at.phase }
     {
         self.at.phase
-    }
-}
-
-// Where a run is before its first step.
-pub(crate) fn first_track() -> Track
-    ensures { result ≡ at_first }
-{
-    Track {
-        place: 0,
-        registers: Registers::new(),
-        latch: None,
-        broken: None,
     }
 }

@@ -2,21 +2,13 @@
 ghost use Rattle.std.specs.Prelude.{◌≡◌, ◌≤◌, true, false, length, take, slice_index_or, slice_set};
 ghost use Rattle.round.specs.Tables.{Marks, Pads};
 
+use crate::slices::front;
+
+// Two lists and not one of pairs: the rules speak of the marked cells and of the covered ones apart, each as a list.
 #[derive(Clone, Copy)]
 pub struct Secrets {
     pub(crate) marked: [bool; 64],
     pub(crate) covered: [bool; 64],
-}
-
-// What the table says of a cell; no past its end.
-fn says(table: &[bool], cell: usize) -> bool
-    ensures { result ≡ slice_index_or table.now cell false }
-{
-    if cell < table.len() {
-        table[cell]
-    } else {
-        false
-    }
 }
 
 impl Secrets {
@@ -28,24 +20,24 @@ impl Secrets {
     {
         Secrets {
             marked: marked_table(list),
-            covered: covered_table(front(marks)),
+            covered: covered_table(front(marks, 64)),
         }
     }
 
     pub(crate) fn is_marked(&self, cell: usize) -> bool
         ensures { result ≡ slice_index_or self.now.marked cell false }
     {
-        says(&self.marked, cell)
+        self.marked.get(cell).copied().unwrap_or(false)
     }
 
     pub(crate) fn is_covered(&self, cell: usize) -> bool
         ensures { result ≡ slice_index_or self.now.covered cell false }
     {
-        says(&self.covered, cell)
+        self.covered.get(cell).copied().unwrap_or(false)
     }
 }
 
-// Yes at the cell, if the table has it.
+// Yes at the cell, if the table has it. It is written by index, since no contract of `get_mut` says what it leaves.
 fn set_yes(table: &mut [bool], cell: usize)
     ensures { table.new ≡ slice_set table.old cell true }
 {
@@ -59,22 +51,10 @@ fn marked_table(list: &[u8]) -> [bool; 64]
     ensures { Marks list.now result }
 {
     let mut table = [false; 64];
-    for i in 0..list.len() {
-        set_yes(&mut table, list[i] as usize);
+    for cell in list {
+        set_yes(&mut table, *cell as usize);
     }
     table
-}
-
-// The marks of the cells below 64.
-fn front(marks: &[bool]) -> &[bool]
-    ensures first { result.now ≡ take 64 marks.now }
-    ensures few { length result.now ≤ 64 }
-{
-    if 64 < marks.len() {
-        &marks[0..64]
-    } else {
-        marks
-    }
 }
 
 // The marks, with no cell covered past them.

@@ -108,12 +108,12 @@ taken v ts (suc n) s = cond (is_over (length ts) s) 0 (1 + taken v ts n (next v 
 abbrev pub cleared : Registers
 cleared = record { levels = replicate 7 no_level; loops = replicate 6 0 }
 
--- a run before its first step, and with its cells
-abbrev pub at_start : Track
-at_start = record { place = 0; registers = cleared; latch = None; broken = None }
+-- where a run is before its first step, and the run with its cells
+abbrev pub at_first : Track
+at_first = record { place = 0; registers = cleared; latch = None; broken = None }
 
 abbrev pub fresh : List ℕ → State
-fresh w = record { track = at_start; cells = w }
+fresh w = record { track = at_first; cells = w }
 
 -- the run that a track and the cells of a kind of values are
 abbrev pub state_of : {V : Type 0} → Ghosts V → Track → List V → State

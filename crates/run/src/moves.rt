@@ -1,6 +1,6 @@
 // A run's beginning, and what the close of a covered loop does to it.
 ghost use Rattle.std.specs.Prelude.{◌≡◌, ◌-◌, ◌&&◌};
-ghost use Rattle.run.specs.Machine.{at_start};
+ghost use Rattle.run.specs.Machine.{at_first};
 ghost use Rattle.run.specs.Moves.{closed};
 
 use crate::registers::Registers;
@@ -9,7 +9,7 @@ use crate::track::Track;
 impl Track {
     // Before the first step.
     pub fn new() -> Track
-        ensures { result ≡ at_start }
+        ensures { result ≡ at_first }
     {
         Track {
             place: 0,

@@ -4,7 +4,7 @@
 
 use anyhow::{Context, ensure};
 use onepath::{Step, convert};
-use run::{Registers, RunFault, Track, Verdict, judge, path_verdict, run_steps};
+use run::{RunFault, Track, Verdict, judge, path_verdict, run_steps};
 use sheet::{Line, Refused};
 use std::alloc::{AllocError, Global};
 use std::io;
@@ -53,12 +53,7 @@ fn one_path<V: Value>(heap: Global, case: &Case) -> Result<String, AllocError> {
     let Ok(path) = convert(case.bytes.as_slice(), &mut lines, &mut marks, &mut steps) else {
         return format!(in heap; "not converted");
     };
-    let mut track = Track {
-        place: 0,
-        registers: Registers::new(),
-        latch: None,
-        broken: None,
-    };
+    let mut track = Track::new();
     let taken = run_steps(&mut track, &steps[0..path.steps], &mut cells, 4000000000);
     let verdict = path_verdict(&track, &cells, path.sheet.verdict);
     format!(in heap; "{verdict} after {taken} steps")

@@ -7,7 +7,7 @@ use crate::telling::{both, cards_alike, cards_line, pair_text, refusal_text, rou
 use crate::watching::Shown;
 use onepath::Step;
 use protocol::{Answer, Call};
-use session::{PlayFault, play_list, play_pair};
+use session::{Board, PlayFault, play_list, play_pair};
 use sheet::{Fault, Line};
 use std::alloc::{AllocError, Global};
 use value::{Candidates, Number, Value};
@@ -102,13 +102,17 @@ fn play_one<V: Value, W: Watcher + Shown + Drop>(
     let mut hand = hand_for::<V>(heap, script, script.first.as_slice())?;
     let played = play_list(
         script.sheet.as_slice(),
-        &mut tables.lines,
-        &mut tables.marks,
-        &mut tables.steps,
-        &mut hand.setter,
-        &mut hand.working,
+        &mut session::Tables {
+            lines: &mut tables.lines,
+            marks: &mut tables.marks,
+            steps: &mut tables.steps,
+        },
         script.tries,
-        &mut watcher,
+        &mut Board {
+            setter: &mut hand.setter,
+            working: &mut hand.working,
+            watcher: &mut watcher,
+        },
         script.calls.as_slice(),
         &mut hand.answers,
     );
@@ -134,16 +138,22 @@ fn play_hands<V: Value, W: Watcher>(
 ) -> Result<(), PlayFault> {
     play_pair(
         script.sheet.as_slice(),
-        &mut tables.lines,
-        &mut tables.marks,
-        &mut tables.steps,
-        &mut one.setter,
-        &mut one.working,
-        &mut other.setter,
-        &mut other.working,
+        &mut session::Tables {
+            lines: &mut tables.lines,
+            marks: &mut tables.marks,
+            steps: &mut tables.steps,
+        },
         script.tries,
-        first,
-        second,
+        &mut Board {
+            setter: &mut one.setter,
+            working: &mut one.working,
+            watcher: first,
+        },
+        &mut Board {
+            setter: &mut other.setter,
+            working: &mut other.working,
+            watcher: second,
+        },
         script.calls.as_slice(),
         &mut one.answers,
         &mut other.answers,

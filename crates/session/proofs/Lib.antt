@@ -1,4 +1,2 @@
 pub mod Openings
-pub mod Heard
-pub mod Listing
 pub mod PlayedOut

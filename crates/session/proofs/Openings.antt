@@ -6,7 +6,8 @@ use Rattle.sheet.specs.Checks.{word_at, or_else}
 use Rattle.onepath.specs.Refusals.{convert_fault}
 use Rattle.protocol.proofs.Agrees.{unless_none}
 use Rattle.protocol.specs.declared.calls.Phase.TheVariants.{Laying}
-use Rattle.round.specs.Rounds.{at_first, renewed}
+use Rattle.run.specs.Machine.{at_first}
+use Rattle.round.specs.Rounds.{renewed}
 use Rattle.round.specs.declared.records.Record.{Record}
 use Rattle.session.specs.Refusals.{open_fault}
 use Rattle.session.specs.declared.opening.Lent.{Lent}

@@ -1,11 +1,8 @@
 -- A list played on a new round keeps the promise.
-use Rattle.std.proofs.Common.{◌≡◌, ℕ, ◌≤◌, Bool, true, false, ◌||◌, List, [], ◌∷◌, ◌++◌, map, length, get_or, take, drop, None, sym, refl, ap, ◌∙◌}
+use Rattle.std.proofs.Common.{◌≡◌, ℕ, Bool, true, false, ◌||◌, List, [], ◌∷◌, ◌++◌, map, length, get_or, take, drop, sym, refl, ap, ◌∙◌}
 use mathlib.Core.Path.{fun_ext}
 use lib.Seq.{take-append_seam}
 use Rattle.std.proofs.lemmas.List.{length-map}
-use Rattle.std.proofs.lemmas.Bool.{le-leb}
-use Rattle.std.specs.Option.{option_map}
-use Rattle.sheet.specs.Checks.{or_else}
 use Rattle.sheet.specs.Layout.{Program}
 use Rattle.sheet.specs.Reading.{Laid}
 use Rattle.marking.specs.Rules.{Least}
@@ -25,29 +22,14 @@ use Rattle.protocol.specs.Watching.{Watching, watch_of}
 use Rattle.protocol.specs.declared.answers.Answer.{Answer}
 use Rattle.protocol.specs.declared.calls.Call.{Call}
 use Rattle.protocol.proofs.Promised.{promised}
-use Rattle.session.specs.Lists.{Desk, desk_of, HearsAll, list_fault}
+use Rattle.session.specs.Lists.{Desk, desk_of, HearsAll}
 use Rattle.session.specs.Opening.{Tables, Opened}
-use Rattle.session.specs.Playing.{Side, side_of, last_of, play_fault, pair_fault, Ready, Played, CardsAlike}
-use Rattle.session.specs.Refusals.{open_fault}
+use Rattle.session.specs.Playing.{Side, side_of, last_of, Ready, Played, CardsAlike}
 use Rattle.round.specs.Rounds.{terms_of, stand_of}
-use Rattle.session.specs.declared.faults.PlayFault.TheVariants.{Open}
-use Rattle.session.specs.declared.opening.Lent.{Lent}
 use Rattle.round.specs.declared.records.Record.{Record}
 
 pub ready : {bs : List ℕ} {before after : Tables} {k n m : ℕ} {r : Record} (o : Opened bs before after k n m r) → Ready bs before after o.program
 ready {r = r} o = record { laid = o.laid; filled = o.filled; covered = o.covered; number = r.steps; stepped = o.stepped }
-
--- nothing is refused
-pub listed_none : (n m : ℕ) → n ≤ m → list_fault n m ≡ None
-listed_none n m h = rw (le-leb n m h) refl
-
-pub no_fault : (bs : List ℕ) (l : Lent) (k n m : ℕ) → None ≡ open_fault bs l k → n ≤ m → None ≡ play_fault bs l k n m
-no_fault bs l k n m e h = sym (ap (λ z. or_else (option_map Open z) (list_fault n m)) (sym e) ∙ listed_none n m h)
-
-pub no_pair_fault : (bs : List ℕ) (a b : Lent) (k n i j : ℕ) → None ≡ open_fault bs a k → None ≡ open_fault bs b k → n ≤ i → n ≤ j → None ≡ pair_fault bs a b k n i j
-no_pair_fault bs a b k n i j e f h g =
-    sym (ap (λ z. or_else (option_map Open z) (or_else (option_map Open (open_fault bs b k)) (or_else (list_fault n i) (list_fault n j)))) (sym e)
-    ∙ ap (λ z. or_else (option_map Open z) (or_else (list_fault n i) (list_fault n j))) (sym f) ∙ ap (λ z. or_else z (list_fault n j)) (listed_none n i h) ∙ listed_none n j g)
 
 -- what the watcher means after the calls is what was told last
 last_told : {M : Type 0} (t : Terms) (w : Watching M) (s : Stand M) (cs : List Call) → (ends t w s cs).watcher ≡ last_of s.watcher (tells t w s cs)

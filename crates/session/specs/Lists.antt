@@ -14,6 +14,7 @@ use Rattle.protocol.specs.declared.answers.Answer.TheVariants.{Refused}
 use Rattle.protocol.specs.declared.calls.Call.{Call}
 use Rattle.protocol.specs.declared.refusals.Refusal.{Refusal}
 use Rattle.round.specs.Rounds.{terms_of, stand_of}
+use Rattle.session.specs.declared.lists.Board.{Board}
 use Rattle.session.specs.declared.faults.PlayFault.{PlayFault}
 use Rattle.session.specs.declared.faults.PlayFault.TheVariants.{Answers}
 use Rattle.round.specs.declared.records.Record.{Record}
@@ -32,6 +33,14 @@ pub record Desk (V W : Type 0) : Type 0 where
 
 abbrev pub desk_of : {V W : Type 0} → Record → List V → List V → W → Desk V W
 desk_of r setter working watcher = record { rec = r; setter = setter; working = working; watcher = watcher }
+
+-- a record with the board that its round is lent
+abbrev pub desk_at : {V W : Type 0} → Record → Board V W → Desk V W
+desk_at r b = desk_of r b.setter.now b.working.now b.watcher.now
+
+-- the same loans, whatever they hold
+abbrev pub SameBoard : {V W : Type 0} → Board V W → Board V W → Type 0
+SameBoard b c = (c.setter.ghost_name ≡ b.setter.ghost_name) × (c.working.ghost_name ≡ b.working.ghost_name) × (c.watcher.ghost_name ≡ b.watcher.ghost_name)
 
 -- The answer to one call and how the round then stands are as defined, and the terms stay.
 pub record Hears {V W : Type 0} (g : Ghosts V) (h : WatcherGhosts W) (table : List Step) (before after' : Desk V W) (c : Call) (a : Answer) : Type 0 where

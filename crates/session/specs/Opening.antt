@@ -7,8 +7,9 @@ use Rattle.onepath.specs.Converting.{covers, Covered, Stepped}
 use Rattle.onepath.specs.declared.steps.Step.{Step}
 use Rattle.protocol.specs.Terms.{is_in}
 use Rattle.protocol.specs.declared.calls.Phase.TheVariants.{Laying}
-use Rattle.round.specs.Rounds.{at_first}
+use Rattle.run.specs.Machine.{at_first}
 use Rattle.session.specs.declared.opening.Lent.{Lent}
+use Rattle.session.specs.declared.opening.Tables.{Tables as LentTables}
 use Rattle.session.specs.declared.faults.OpenFault.{OpenFault}
 use Rattle.round.specs.declared.records.Record.{Record}
 use Rattle.round.specs.declared.records.Round.{Round}
@@ -31,6 +32,17 @@ pub record Tables : Type 0 where
 
 abbrev pub tables_of : List Line → List Bool → List Step → Tables
 tables_of lines marks steps = record { lines = lines; marks = marks; steps = steps }
+
+-- what the tables hold
+abbrev pub holds : LentTables → Tables
+holds t = tables_of t.lines.now t.marks.now t.steps.now
+
+-- they are the same loans
+abbrev pub SameTables : LentTables → LentTables → Type 0
+SameTables t u =
+    (u.lines.ghost_name ≡ t.lines.ghost_name) ×
+    (u.marks.ghost_name ≡ t.marks.ghost_name) ×
+    (u.steps.ghost_name ≡ t.steps.ghost_name)
 
 -- how much is lent with n setter's and m working cells
 abbrev pub lent_by : Tables → ℕ → ℕ → Lent

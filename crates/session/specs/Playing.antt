@@ -22,6 +22,7 @@ use Rattle.session.specs.Refusals.{open_fault}
 use Rattle.session.specs.declared.faults.PlayFault.{PlayFault}
 use Rattle.session.specs.declared.faults.PlayFault.TheVariants.{Open}
 use Rattle.session.specs.declared.opening.Lent.{Lent}
+use Rattle.session.specs.declared.lists.Board.{Board}
 
 -- the first fault of an opening and then of its list of n calls with m answer places
 abbrev pub play_fault : List ℕ → Lent → ℕ → ℕ → ℕ → Option PlayFault
@@ -40,6 +41,10 @@ pub record Side (V W : Type 0) : Type 0 where
 
 abbrev pub side_of : {V W : Type 0} → List V → List V → W → List Answer → Side V W
 side_of setter working watcher answers = record { setter = setter; working = working; watcher = watcher; answers = answers }
+
+-- what a board holds, with the answers
+abbrev pub side_at : {V W : Type 0} → Board V W → List Answer → Side V W
+side_at b answers = side_of b.setter.now b.working.now b.watcher.now answers
 
 -- what the watcher means after the last call
 abbrev pub last_of : {M : Type 0} → M → List (Told M) → M

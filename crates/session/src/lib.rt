@@ -7,6 +7,6 @@ mod opening;
 mod playing;
 
 pub use faults::{OpenFault, PlayFault};
-pub use lists::{answer_call, run_list};
-pub use opening::{Lent, check_opening, open};
+pub use lists::{Board, answer_call, run_list};
+pub use opening::{Lent, Tables, check_opening, open};
 pub use playing::{play_list, play_pair};

@@ -1,114 +1,99 @@
 // Calls and answers as records, one by one and in lists.
-ghost use Rattle.std.specs.Prelude.{◌≡◌, ◌<◌, ◌≤◌, length, slice_set};
+ghost use Rattle.std.specs.Prelude.{◌≡◌, ◌≤◌, length};
 ghost use Rattle.sheet.specs.Results.{found};
-ghost use Rattle.protocol.specs.declared.answers.Answer.TheVariants.{Done, Left, Walked, Shown, Scored};
-ghost use Rattle.session.specs.Lists.{recorded, desk_of, Hears, HearsAll, list_fault, Lists};
+ghost use Rattle.session.specs.Lists.{recorded, desk_of, desk_at, SameBoard, Hears, HearsAll, list_fault, Lists};
 
 use crate::faults::PlayFault;
 use onepath::Step;
-use protocol::{Advanced, Answer, Call, Phase, Refusal, Score};
+use protocol::{Answer, Call, Phase, Refusal};
 use round::{Round, advance, look, put, score, start, withdraw};
 use value::Value;
 use watch::Watcher;
 
-fn done(r: Result<(), Refusal>) -> Answer
-    ensures { result ≡ recorded (λ _. Done) r }
-{
-    match r {
-        Ok(()) => Answer::Done,
-        Err(refusal) => Answer::Refused { refusal },
-    }
+// The cells and the watcher that a round is lent.
+#[derive(Drop)]
+pub struct Board<'a, V, W> {
+    pub setter: &'a mut [V],
+    pub working: &'a mut [V],
+    pub watcher: &'a mut W,
 }
 
-fn left(r: Result<u32, Refusal>) -> Answer
-    ensures { result ≡ recorded Left r }
-{
-    match r {
-        Ok(tries) => Answer::Left { tries },
-        Err(refusal) => Answer::Refused { refusal },
-    }
-}
-
-fn walked(r: Result<Advanced, Refusal>) -> Answer
-    ensures { result ≡ recorded Walked r }
-{
-    match r {
-        Ok(advanced) => Answer::Walked { advanced },
-        Err(refusal) => Answer::Refused { refusal },
-    }
-}
-
-fn shown(r: Result<u32, Refusal>) -> Answer
-    ensures { result ≡ recorded Shown r }
-{
-    match r {
-        Ok(code) => Answer::Shown { code },
-        Err(refusal) => Answer::Refused { refusal },
-    }
-}
-
-fn scored(r: Result<Score, Refusal>) -> Answer
-    ensures { result ≡ recorded Scored r }
-{
-    match r {
-        Ok(score) => Answer::Scored { score },
-        Err(refusal) => Answer::Refused { refusal },
-    }
-}
-
-// Answers one call: the phase and the call together decide.
-pub fn answer_call<V: Value, W: Watcher>(
+// What one call comes to: the phase and the call together decide. The parts of a board come one by one, since most calls
+// only read some of them, and no proof follows a list that is lent on from a struct to be read beside others.
+fn hear<V: Value, W: Watcher>(
     round: &mut Round,
     steps: &[Step],
     setter: &mut [V],
     working: &mut [V],
     watcher: &mut W,
     call: Call,
-) -> Answer
-    ensures hears { Hears V.Value W.Watcher steps.now (desk_of round.old.at setter.old working.old watcher.old) (desk_of round.new.at setter.new working.new watcher.new) call result }
+) -> Result<Answer, Refusal>
+    ensures hears { Hears V.Value W.Watcher steps.now (desk_of round.old.at setter.old working.old watcher.old) (desk_of round.new.at setter.new working.new watcher.new) call (recorded (λ a. a) result) }
     ensures loan { W.Watcher.loan watcher.new ≡ W.Watcher.loan watcher.old }
 {
     match (round.phase(), call) {
-        (Phase::Laying, Call::Put { cell, number }) => done(put(round, setter, cell, number)),
-        (Phase::Laying, Call::Start) => left(start(round, setter, working)),
-        (Phase::InPlay, Call::Advance { steps: count }) => {
-            walked(advance(round, steps, working, watcher, count))
+        (Phase::Laying, Call::Put { cell, number }) => {
+            put(round, setter, cell, number).map(|()| Answer::Done)
         }
-        (Phase::InPlay, Call::Look { cell }) => shown(look(round, working, cell)),
-        (Phase::InPlay, Call::Withdraw) => done(withdraw(round)),
-        (Phase::InPlay, Call::Score) => scored(score(round, steps, working)),
-        _ => Answer::Refused {
-            refusal: Refusal::Phase,
-        },
+        (Phase::Laying, Call::Start) => {
+            start(round, setter, working).map(|tries| Answer::Left { tries })
+        }
+        (Phase::InPlay, Call::Advance { steps: count }) => {
+            advance(round, steps, working, watcher, count).map(|advanced| Answer::Walked {
+                advanced,
+            })
+        }
+        (Phase::InPlay, Call::Look { cell }) => {
+            look(round, working, cell).map(|code| Answer::Shown { code })
+        }
+        (Phase::InPlay, Call::Withdraw) => withdraw(round).map(|()| Answer::Done),
+        (Phase::InPlay, Call::Score) => {
+            score(round, steps, working).map(|score| Answer::Scored { score })
+        }
+        _ => Err(Refusal::Phase),
     }
 }
 
-// Writes the answer to the i-th call down.
-fn note(answers: &mut [Answer], i: usize, answer: Answer)
-    requires { i < length answers.old }
-    ensures { answers.new ≡ slice_set answers.old i answer }
+// Answers one call.
+pub fn answer_call<V: Value, W: Watcher>(
+    round: &mut Round,
+    steps: &[Step],
+    board: &mut Board<V, W>,
+    call: Call,
+) -> Answer
+    ensures hears { Hears V.Value W.Watcher steps.now (desk_at round.old.at board.old) (desk_at round.new.at board.new) call result }
+    ensures same { SameBoard board.old board.new }
+    ensures loan { W.Watcher.loan board.new.watcher.now ≡ W.Watcher.loan board.old.watcher.now }
 {
-    answers[i] = answer;
+    match hear(
+        round,
+        steps,
+        board.setter,
+        board.working,
+        board.watcher,
+        call,
+    ) {
+        Ok(answer) => answer,
+        Err(refusal) => Answer::Refused { refusal },
+    }
 }
 
-// Plays all the calls.
+// Plays all the calls. The answer places are written by index, since no proof follows what an adapter of `iter_mut`
+// leaves in a list.
 pub(crate) fn answer_all<V: Value, W: Watcher>(
     round: &mut Round,
     steps: &[Step],
-    setter: &mut [V],
-    working: &mut [V],
-    watcher: &mut W,
+    board: &mut Board<V, W>,
     calls: &[Call],
     answers: &mut [Answer],
 )
     requires { length calls.now ≤ length answers.old }
-    ensures hears { HearsAll V.Value W.Watcher steps.now (desk_of round.old.at setter.old working.old watcher.old) (desk_of round.new.at setter.new working.new watcher.new) calls.now answers.old answers.new }
-    ensures loan { W.Watcher.loan watcher.new ≡ W.Watcher.loan watcher.old }
+    ensures hears { HearsAll V.Value W.Watcher steps.now (desk_at round.old.at board.old) (desk_at round.new.at board.new) calls.now answers.old answers.new }
+    ensures same { SameBoard board.old board.new }
+    ensures loan { W.Watcher.loan board.new.watcher.now ≡ W.Watcher.loan board.old.watcher.now }
 {
-    for i in 0..calls.len() {
-        let call = calls[i];
-        let heard = answer_call(round, steps, setter, working, watcher, call);
-        note(answers, i, heard);
+    for (i, call) in calls.iter().enumerate() {
+        answers[i] = answer_call(round, steps, board, *call);
     }
 }
 
@@ -116,19 +101,18 @@ pub(crate) fn answer_all<V: Value, W: Watcher>(
 pub fn run_list<V: Value, W: Watcher>(
     round: &mut Round,
     steps: &[Step],
-    setter: &mut [V],
-    working: &mut [V],
-    watcher: &mut W,
+    board: &mut Board<V, W>,
     calls: &[Call],
     answers: &mut [Answer],
 ) -> Result<(), PlayFault>
     ensures first { found result ≡ list_fault (length calls.now) (length answers.old) }
-    ensures lists { Lists V.Value W.Watcher steps.now (desk_of round.old.at setter.old working.old watcher.old) (desk_of round.new.at setter.new working.new watcher.new) calls.now answers.old answers.new result }
-    ensures loan { W.Watcher.loan watcher.new ≡ W.Watcher.loan watcher.old }
+    ensures lists { Lists V.Value W.Watcher steps.now (desk_at round.old.at board.old) (desk_at round.new.at board.new) calls.now answers.old answers.new result }
+    ensures same { SameBoard board.old board.new }
+    ensures loan { W.Watcher.loan board.new.watcher.now ≡ W.Watcher.loan board.old.watcher.now }
 {
     if answers.len() < calls.len() {
         return Err(PlayFault::Answers);
     }
-    answer_all(round, steps, setter, working, watcher, calls, answers);
+    answer_all(round, steps, board, calls, answers);
     Ok(())
 }

@@ -1,25 +1,18 @@
-use Rattle.std.proofs.Common.{length, arith}
-use Rattle.session.specs.Lists.{desk_of}
-use Rattle.session.specs.Opening.{tables_of, lent_by}
-use Rattle.session.proofs.PlayedOut.{ready, played, no_fault}
+use Rattle.std.proofs.Common.{length}
+use Rattle.session.specs.Lists.{desk_at}
+use Rattle.session.specs.Opening.{holds}
+use Rattle.session.proofs.PlayedOut.{ready, played}
 use Rattle.session.proofs.playing.play_list.Goals as goal
 
-pub returns : goal.returns
-returns g c =
-    let bs = c.args.bytes.now in
-    let before = tables_of c.args.lines.now c.args.marks.now c.args.steps.now in
-    let after = tables_of c.open.new.lines c.open.new.marks c.open.new.steps in
-    let n = length c.args.setter.now in
-    let m = length c.args.working.now in
-    let o = c.in_ok-round.ensures.opens in
-    let r = c.in_ok-round.round.at in
-    let l = c.answer_all.new in
-    record {
-      first = no_fault bs (lent_by before n m) c.args.tries (length c.args.calls.now) (length c.args.answers.now) c.in_ok-check_opening.ensures.first (omega arith);
-      plays = (
-        o.program,
-        ready o,
-        played g.V.Value g.W.Watcher bs before after c.args.tries n m r o (desk_of l.round.at l.setter l.working l.watcher) c.args.setter.now c.args.working.now c.args.watcher.now c.args.calls.now c.args.answers.now l.answers c.answer_all.ensures.hears,
-      );
-      loan = c.answer_all.ensures.loan;
-    }
+pub returns-clause-plays : goal.returns-clause-plays
+returns-clause-plays g c =
+    let before = c.args.board.now in
+    let after = c.play_calls.new.board in
+    let n = length before.setter.now in
+    let m = length before.working.now in
+    let o = c.in_ok-round.ensures.opens in (
+      o.program,
+      ready o,
+      played g.V.Value g.W.Watcher c.args.bytes.now (holds c.args.tables.now) (holds c.open_with.new.tables) c.args.tries n m c.in_ok-round.round.at o
+          (desk_at c.play_calls.new.round.at after) before.setter.now before.working.now before.watcher.now c.args.calls.now c.args.answers.now c.play_calls.new.answers c.play_calls.ensures.hears,
+    )
