@@ -94,4 +94,3 @@ run_loop-loop-preserved g t c =
     let w = map f c.loop.cells in
     λ p s.
     sym (pass_goes v c.args.cell c.args.line (branching v p c.args.body.from) n m e w (map f c.run_block.new.cells) (sym c.if-not-is_true.ensures) (c.in_ok-run_block.ensures p s)) ∙ c.loop.invariant p s
-
