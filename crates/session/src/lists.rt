@@ -10,7 +10,7 @@ use round::{Round, advance, look, put, score, start, withdraw};
 use value::Value;
 use watch::Watcher;
 
-// The cells and the watcher that a round is lent.
+// The cells and the watcher that a round is lent. The answer places come beside them, since one call alone needs none.
 #[derive(Drop)]
 pub struct Board<'a, V, W> {
     pub setter: &'a mut [V],
@@ -18,8 +18,8 @@ pub struct Board<'a, V, W> {
     pub watcher: &'a mut W,
 }
 
-// What one call comes to: the phase and the call together decide. The parts of a board come one by one, since most calls
-// only read some of them, and no proof follows a list that is lent on from a struct to be read beside others.
+// What one call comes to: the phase and the call together decide. The parts of a board come one by one, since most
+// calls only read some of them, and no proof follows a list that is lent on from a struct to be read beside others.
 fn hear<V: Value, W: Watcher>(
     round: &mut Round,
     steps: &[Step],
