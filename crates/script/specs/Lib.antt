@@ -1,1 +1,3 @@
+pub mod Headings
+pub mod Faults
 pub mod Texts

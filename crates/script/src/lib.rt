@@ -6,7 +6,6 @@ mod headings;
 mod playing;
 mod reading;
 mod telling;
-mod watching;
 mod words;
 
 pub use faults::{Expected, ScriptFault, TextFault};
