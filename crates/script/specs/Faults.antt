@@ -1,5 +1,7 @@
 -- The words that faults of a text are printed in.
-use Rattle.std.specs.Prelude.{ℕ, List, ◌++◌, codes, decimal}
+use Rattle.std.specs.Prelude.{ℕ, ◌+◌, ◌==◌, List, ◌++◌, take, codes, decimal}
+use Rattle.std.specs.List.{count_by}
+use Rattle.std.specs.Str.Lossy.{utf8_valid_len}
 use Rattle.script.specs.Headings.{heading_name, count_refused}
 use Rattle.script.specs.declared.faults.Expected.{Expected}
 use Rattle.script.specs.declared.faults.Expected.TheVariants.{Text, Line, Call, Needed, NoMore, Number, Byte, Kind, Watcher, Below, End}
@@ -32,3 +34,11 @@ script_fault_text (Unreadable f) = fault_text f.line f.expected
 abbrev pub fault_at : LineFault → ℕ → ScriptFault
 fault_at NoMemory line = Memory
 fault_at (Unlike e) line = Unreadable (record { line = line; expected = e })
+
+-- the line, counted from 1, that this byte stands in
+abbrev pub line_at : List ℕ → ℕ → ℕ
+line_at text at = count_by (λ b. b == 10) (take at text) + 1
+
+-- the fault of a text that is not UTF-8
+abbrev pub not_text : List ℕ → ScriptFault
+not_text text = Unreadable (record { line = line_at text (utf8_valid_len text); expected = Text })

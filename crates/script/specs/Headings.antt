@@ -1,5 +1,5 @@
 -- The names of headings, and which a text owes.
-use Rattle.std.specs.Prelude.{ℕ, List, Some, None, Option, codes, is_some, if◌then◌else◌}
+use Rattle.std.specs.Prelude.{ℕ, ◌+◌, Bool, List, Some, None, Option, codes, is_some, if◌then◌else◌}
 use Rattle.script.specs.declared.headings.Heading.{Heading}
 use Rattle.script.specs.declared.headings.Heading.TheVariants.{Sheet, Kind, Tries, Cells, Watch, Tables, Working, Answers}
 use Rattle.script.specs.declared.headings.Headings.{Headings}
@@ -43,3 +43,29 @@ missing_heading h =
     else Some Tries)
     else Some Kind)
     else Some Sheet
+
+-- is another line of the heading one too many
+abbrev pub is_full : Headings → Heading → Bool
+is_full h Sheet = is_some h.sheet
+is_full h Kind = is_some h.kind
+is_full h Tries = is_some h.tries
+is_full h Cells = is_some h.second
+is_full h Watch = is_some h.watch
+is_full h Tables = is_some h.tables
+is_full h Working = is_some h.working
+is_full h Answers = is_some h.answers
+
+abbrev pub lines_in : {A : Type 0} → Option A → ℕ
+lines_in None = 0
+lines_in (Some x) = 1
+
+-- how many lines of the heading there are
+abbrev pub lines_of : Headings → Heading → ℕ
+lines_of h Sheet = lines_in h.sheet
+lines_of h Kind = lines_in h.kind
+lines_of h Tries = lines_in h.tries
+lines_of h Cells = lines_in h.first + lines_in h.second
+lines_of h Watch = lines_in h.watch
+lines_of h Tables = lines_in h.tables
+lines_of h Working = lines_in h.working
+lines_of h Answers = lines_in h.answers

@@ -1,6 +1,9 @@
 // The headings of a text: what is played, over which values, and with what.
-ghost use Rattle.std.specs.Prelude.{◌≡◌, ◌≢◌, Some, IfOk, OnErr};
-ghost use Rattle.script.specs.Headings.{heading_name, count_refused, kind_name, missing_heading};
+ghost use Rattle.std.specs.Prelude.{◌≡◌, ◌≢◌, ◌+◌, Some, None, Err, IfOk, OnOk, OnErr, IsTrue};
+ghost use Rattle.script.specs.Headings.{heading_name, count_refused, kind_name, missing_heading, is_full, lines_of};
+ghost use Rattle.script.specs.declared.headings.Heading.TheVariants.{Cells};
+ghost use Rattle.script.specs.declared.faults.Expected.TheVariants.{NoMore};
+ghost use Rattle.script.specs.declared.faults.LineFault.TheVariants.{Unlike};
 
 use crate::faults::{Expected, LineFault};
 use crate::words::{Words, byte, number};
@@ -192,7 +195,9 @@ impl Headings {
     }
 
     // Whether another line of this heading is one too many.
-    fn is_full(&self, heading: Heading) -> bool {
+    fn is_full(&self, heading: Heading) -> bool
+        ensures { result ≡ is_full self.now heading }
+    {
         match heading {
             Heading::Sheet => self.sheet.is_some(),
             Heading::Kind => self.kind.is_some(),
@@ -205,7 +210,11 @@ impl Headings {
         }
     }
 
-    fn add_cells(&mut self, cells: Vec<u32>) {
+    fn add_cells(&mut self, cells: Vec<u32>)
+        requires { self.old.second ≡ None }
+        ensures lines { lines_of self.new Cells ≡ lines_of self.old Cells + 1 }
+        ensures others { (h : Heading) → h ≢ Cells → lines_of self.new h ≡ lines_of self.old h }
+    {
         if self.first.is_none() {
             self.first = Some(cells);
         } else {
@@ -219,7 +228,11 @@ impl Headings {
         heap: Global,
         heading: Heading,
         words: &mut Words,
-    ) -> Result<(), LineFault> {
+    ) -> Result<(), LineFault>
+        ensures full { IsTrue (is_full self.old heading) → result ≡ Err (Unlike (NoMore heading)) }
+        ensures lines { OnOk result (lines_of self.new heading ≡ lines_of self.old heading + 1) }
+        ensures others { OnOk result ((h : Heading) → h ≢ heading → lines_of self.new h ≡ lines_of self.old h) }
+    {
         if self.is_full(heading) {
             return Err(LineFault::Unlike(Expected::NoMore(heading)));
         }

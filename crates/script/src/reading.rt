@@ -1,4 +1,8 @@
 // A text as what is to be played.
+ghost use Rattle.std.specs.Prelude.{◌≡◌, ◌≤◌, ◌==◌, length, count_by, Err, OnOk};
+ghost use Rattle.std.specs.Str.{IsUtf8};
+ghost use Rattle.script.specs.Faults.{line_at, not_text};
+
 use crate::faults::{Expected, LineFault, ScriptFault, TextFault};
 use crate::headings::{Heading, Headings, Lengths, ValueKind, Watch};
 use crate::words::{Words, joined};
@@ -116,10 +120,19 @@ impl Reading {
     }
 }
 
+fn newlines(text: &[u8]) -> usize
+    ensures count { result ≡ count_by (λ b. b == 10) text.now }
+    ensures within { result ≤ length text.now }
+{
+    text.iter().filter(|byte| **byte == b'\n').count()
+}
+
 // The line, counted from 1, that this byte stands in.
-fn line_of(text: &[u8], at: usize) -> usize {
-    let before = text.iter().take(at).filter(|byte| **byte == b'\n').count();
-    before.saturating_add(1)
+fn line_of(text: &[u8], at: usize) -> usize
+    ensures { result ≡ line_at text.now at }
+{
+    let before = at.min(text.len());
+    newlines(&text[..before]) + 1
 }
 
 fn read_lines(heap: Global, text: &str) -> Result<Script, ScriptFault> {
@@ -139,7 +152,10 @@ fn read_lines(heap: Global, text: &str) -> Result<Script, ScriptFault> {
         .map_err(|expected| LineFault::Unlike(expected).at(end))
 }
 
-pub fn read_script(heap: Global, text: &[u8]) -> Result<Script, ScriptFault> {
+pub fn read_script(heap: Global, text: &[u8]) -> Result<Script, ScriptFault>
+    ensures text { OnOk result (IsUtf8 text.now) }
+    ensures no_text { ¬ (IsUtf8 text.now) → result ≡ Err (not_text text.now) }
+{
     match from_utf8(text) {
         Ok(text) => read_lines(heap, text),
         Err(fault) => Err(ScriptFault::Unreadable(TextFault {

@@ -1,10 +1,18 @@
 // The words of a line.
+ghost use Rattle.std.specs.Prelude.{◌≡◌, ◌^◌, ◌<◌, length, IfErr};
+ghost use Rattle.std.specs.Result.{OkIff};
+ghost use Rattle.std.specs.Str.Parse.{IsNumeral, digits_value};
+ghost use Rattle.script.specs.declared.faults.Expected.TheVariants.{Number, Byte};
+
 use crate::faults::{Expected, LineFault};
 use std::alloc::{AllocError, Global};
 use std::str::SplitWhitespace;
 
 // A decimal number of 32 bits, without a sign.
-pub fn number(word: &str) -> Result<u32, Expected> {
+pub fn number(word: &str) -> Result<u32, Expected>
+    ensures value { OkIff result (IsNumeral 10 word.now × (digits_value 10 word.now < 2 ^ 32)) (digits_value 10 word.now) }
+    ensures err { IfErr result (λ e. e ≡ Number) }
+{
     if word.starts_with('+') {
         return Err(Expected::Number);
     }
@@ -12,7 +20,10 @@ pub fn number(word: &str) -> Result<u32, Expected> {
 }
 
 // A byte as two hexadecimal digits.
-pub fn byte(word: &str) -> Result<u8, Expected> {
+pub fn byte(word: &str) -> Result<u8, Expected>
+    ensures value { OkIff result ((length word.now ≡ 2) × IsNumeral 16 word.now × (digits_value 16 word.now < 2 ^ 8)) (digits_value 16 word.now) }
+    ensures err { IfErr result (λ e. e ≡ Byte) }
+{
     if word.len() != 2 || word.starts_with('+') {
         return Err(Expected::Byte);
     }
