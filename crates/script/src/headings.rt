@@ -11,7 +11,7 @@ use std::alloc::Global;
 use std::fmt;
 use std::str::FromStr;
 
-#[derive(Clone, Copy, Debug, PartialEq)]
+#[derive(Clone, Copy, Debug)]
 pub enum Heading {
     Sheet,
     Kind,

@@ -10,8 +10,8 @@ use protocol::Call;
 use std::alloc::Global;
 use std::str::from_utf8;
 
-// What is to be played. `words` has the text of each call as it was written, beside the calls, which are played as one
-// slice.
+// What is to be played. `words` has each call as it was written, which is how it is printed: beside `calls`, since rounds
+// are played from a slice of calls.
 #[derive(Drop)]
 pub struct Script {
     pub sheet: Vec<u8>,
@@ -35,7 +35,8 @@ struct Reading {
     words: Vec<String>,
 }
 
-// The call of a line; none if it begins with no call's word.
+// The call of a line; none if it begins with no call's word. Each word is matched where the numbers after it are read,
+// since a list of the calls' words beside this match would be no plainer.
 fn call_of(line: &str) -> Result<Option<Call>, Expected> {
     let mut words = Words::of(line);
     let call = match words.word() {

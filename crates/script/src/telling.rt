@@ -80,7 +80,7 @@ fn call_lines(heap: Global, calls: &[String], tells: &[String]) -> Result<String
 {
     let mut text = String::new(heap);
     for (call, told) in calls.iter().zip(tells) {
-        write!(text, "{call}: {told}\n")?;
+        writeln!(text, "{call}: {told}")?;
     }
     Ok(text)
 }
