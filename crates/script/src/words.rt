@@ -1,8 +1,10 @@
 // The words of a line.
-ghost use Rattle.std.specs.Prelude.{◌≡◌, ◌^◌, ◌<◌, length, IfErr};
+ghost use Rattle.std.specs.Prelude.{◌≡◌, ℕ, ◌^◌, ◌<◌, List, [], length, IfErr, OnOk, OnErr};
 ghost use Rattle.std.specs.Result.{OkIff};
 ghost use Rattle.std.specs.Str.Parse.{IsNumeral, digits_value};
-ghost use Rattle.script.specs.declared.faults.Expected.TheVariants.{Number, Byte};
+ghost use Rattle.std.specs.Str.Iter.{split_whitespace_rest};
+ghost use Rattle.script.specs.Words.{Took};
+ghost use Rattle.script.specs.declared.faults.Expected.TheVariants.{Number, Byte, End};
 
 use crate::faults::{Expected, LineFault};
 use std::alloc::{AllocError, Global};
@@ -49,23 +51,34 @@ pub struct Words<'a> {
 }
 
 impl<'a> Words<'a> {
-    pub fn of(line: &'a str) -> Words<'a> {
+    pub fn of(line: &'a str) -> Words<'a>
+        ensures { split_whitespace_rest result.left ≡ line.now }
+    {
         Words {
             left: line.split_whitespace(),
         }
     }
 
     // The next word; a line that ends reads like an empty word.
-    pub fn word(&mut self) -> &'a str {
+    pub fn word(&mut self) -> &'a str
+        ensures { Took self.old.left result.now self.new.left }
+    {
         self.left.next().unwrap_or("")
     }
 
-    pub fn number(&mut self) -> Result<u32, Expected> {
+    pub fn number(&mut self) -> Result<u32, Expected>
+        ensures value { (word : List ℕ) × Took self.old.left word self.new.left × OkIff result (IsNumeral 10 word × (digits_value 10 word < 2 ^ 32)) (digits_value 10 word) }
+        ensures err { IfErr result (λ e. e ≡ Number) }
+    {
         number(self.word())
     }
 
     // No word is left.
-    pub fn end(&mut self) -> Result<(), Expected> {
+    pub fn end(&mut self) -> Result<(), Expected>
+        ensures ok { OnOk result (Took self.old.left [] self.new.left) }
+        ensures err { IfErr result (λ e. e ≡ End) }
+        ensures more { OnErr result ((word : List ℕ) × (0 < length word) × Took self.old.left word self.new.left) }
+    {
         match self.left.next() {
             None => Ok(()),
             Some(_) => Err(Expected::End),
