@@ -17,22 +17,19 @@ fn main(rt: HostRuntime) -> anyhow::Result<()> {
     let heap = rt.alloc();
     let mut table = String::new(heap);
     rt.stdin().read_to_string(&mut table)?;
-    let mut text = String::new(heap);
-    let mut titled = false;
+    let mut text: Option<String> = None;
     for line in table.lines() {
-        if !line.starts_with("----") {
+        if line.starts_with("----") {
+            if let Some(text) = text.replace(String::new(heap)) {
+                print_response(&rt, text.as_str())?;
+            }
+            println!(rt; "{line}")?;
+        } else if let Some(text) = &mut text {
             text.push_str(line)?;
             text.push('\n')?;
-            continue;
         }
-        if titled {
-            print_response(&rt, text.as_str())?;
-        }
-        println!(rt; "{line}")?;
-        text.clear();
-        titled = true;
     }
-    if titled {
+    if let Some(text) = text {
         print_response(&rt, text.as_str())?;
     }
     Ok(())

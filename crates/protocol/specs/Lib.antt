@@ -1,4 +1,5 @@
 pub mod Numbers
+pub mod Texts
 pub mod Terms
 pub mod Watching
 pub mod Stands

@@ -1,11 +1,13 @@
 // What a round answers.
-ghost use Rattle.std.specs.Prelude.{◌≡◌};
+ghost use Rattle.std.specs.Prelude.{◌≡◌, Some};
 ghost use Rattle.protocol.specs.Calls.{score_of};
 ghost use Rattle.protocol.specs.Numbers.{ending_number, ending_line, score_number, walk_numbers, refusal_of, numbers_of};
+ghost use Rattle.protocol.specs.Texts.{score_text, ending_text, walk_text, answer_text};
 
 use crate::refusals::Refusal;
 use run::Verdict;
-use sheet::Fault;
+use sheet::{Fault, Refused};
+use std::fmt;
 
 // What a run of a sheet comes to, as it is told.
 #[derive(Clone, Copy, PartialEq, Debug)]
@@ -129,6 +131,55 @@ impl Answer {
             Answer::Shown { code } => (code as usize, 0, 0),
             Answer::Scored { score } => (score.number(), 0, 0),
             Answer::Refused { refusal } => (refusal.place(), 0, 0),
+        }
+    }
+}
+
+impl fmt::Display for Score {
+    ghost output = { λ s. Some (score_text s) };
+
+    fn fmt<W: fmt::Write>(&self, f: &mut fmt::Formatter<W>) -> fmt::Result {
+        f.write_str(match *self {
+            Score::Right => "right",
+            Score::Wrong => "wrong",
+            Score::Void => "void",
+        })
+    }
+}
+
+impl fmt::Display for Ending {
+    ghost output = { λ e. Some (ending_text e) };
+
+    fn fmt<W: fmt::Write>(&self, f: &mut fmt::Formatter<W>) -> fmt::Result {
+        match *self {
+            Ending::Paused => f.write_str("paused"),
+            Ending::Ended => f.write_str("ended"),
+            Ending::Broken { line } => write!(f, "broken at line {line}"),
+            Ending::Stopped => f.write_str("stopped"),
+        }
+    }
+}
+
+impl fmt::Display for Advanced {
+    ghost output = { λ r. Some (walk_text r.steps r.ending) };
+
+    fn fmt<W: fmt::Write>(&self, f: &mut fmt::Formatter<W>) -> fmt::Result {
+        let Advanced { steps, ending } = *self;
+        write!(f, "{steps} steps, {ending}")
+    }
+}
+
+impl fmt::Display for Answer {
+    ghost output = { λ a. Some (answer_text a) };
+
+    fn fmt<W: fmt::Write>(&self, f: &mut fmt::Formatter<W>) -> fmt::Result {
+        match *self {
+            Answer::Done => f.write_str("done"),
+            Answer::Left { tries } => write!(f, "{tries} tries left"),
+            Answer::Walked { advanced } => advanced.fmt(f),
+            Answer::Shown { code } => write!(f, "{code}"),
+            Answer::Scored { score } => score.fmt(f),
+            Answer::Refused { refusal } => Refused(refusal).fmt(f),
         }
     }
 }

@@ -1,1 +1,4 @@
+pub mod Headings
+pub mod Faults
 pub mod Texts
+pub mod Words

@@ -1,4 +1,9 @@
 // Why a text is not played.
+ghost use Rattle.std.specs.Prelude.{◌≡◌, Some};
+ghost use Rattle.script.specs.Faults.{expected_text, fault_text, script_fault_text, fault_at};
+ghost use Rattle.script.specs.declared.faults.LineFault.TheVariants.{Memory as NoMemory, Unlike};
+ghost use Rattle.script.specs.declared.faults.ScriptFault.TheVariants.{Memory};
+
 use crate::headings::Heading;
 use std::alloc::{AllocError, AllocFailed};
 use std::error::Error;
@@ -28,19 +33,17 @@ pub enum Expected {
 }
 
 impl fmt::Display for Expected {
+    ghost output = { λ e. Some (expected_text e) };
+
     fn fmt<W: fmt::Write>(&self, f: &mut fmt::Formatter<W>) -> fmt::Result {
         match *self {
             Expected::Text => f.write_str("text in UTF-8"),
             Expected::Line => f.write_str("a heading or a call"),
             Expected::Call => f.write_str("a call"),
-            Expected::Needed(heading) => {
-                let name = heading.name();
-                write!(f, "a {name} line")
-            }
+            Expected::Needed(heading) => write!(f, "a {heading} line"),
             Expected::NoMore(heading) => {
                 let count = heading.count_refused();
-                let name = heading.name();
-                write!(f, "no {count} {name} line")
+                write!(f, "no {count} {heading} line")
             }
             Expected::Number => f.write_str("a number from 0 to 4294967295"),
             Expected::Byte => f.write_str("two hexadecimal digits"),
@@ -60,9 +63,10 @@ pub struct TextFault {
 }
 
 impl fmt::Display for TextFault {
+    ghost output = { λ e. Some (fault_text e.line e.expected) };
+
     fn fmt<W: fmt::Write>(&self, f: &mut fmt::Formatter<W>) -> fmt::Result {
-        let line = self.line;
-        let expected = self.expected;
+        let TextFault { line, expected } = *self;
         write!(f, "line {line}: expected {expected}")
     }
 }
@@ -74,10 +78,12 @@ pub enum ScriptFault {
 }
 
 impl fmt::Display for ScriptFault {
+    ghost output = { λ e. Some (script_fault_text e) };
+
     fn fmt<W: fmt::Write>(&self, f: &mut fmt::Formatter<W>) -> fmt::Result {
         match *self {
             ScriptFault::Memory => f.write_str("not enough memory"),
-            ScriptFault::Unreadable(fault) => write!(f, "{fault}"),
+            ScriptFault::Unreadable(fault) => fault.fmt(f),
         }
     }
 }
@@ -85,6 +91,8 @@ impl fmt::Display for ScriptFault {
 impl Error for ScriptFault {}
 
 impl From<AllocError> for ScriptFault {
+    ghost from_gives = { λ _ e. e ≡ Memory };
+
     fn from(_e: AllocError) -> ScriptFault {
         ScriptFault::Memory
     }
@@ -98,7 +106,10 @@ pub enum LineFault {
 }
 
 impl LineFault {
-    pub fn at(self, line: usize) -> ScriptFault {
+    // The fault of a text whose line of this number is not taken.
+    pub fn at(self, line: usize) -> ScriptFault
+        ensures { result ≡ fault_at self line }
+    {
         match self {
             LineFault::Memory => ScriptFault::Memory,
             LineFault::Unlike(expected) => ScriptFault::Unreadable(TextFault { line, expected }),
@@ -107,18 +118,24 @@ impl LineFault {
 }
 
 impl From<Expected> for LineFault {
+    ghost from_gives = { λ expected e. e ≡ Unlike expected };
+
     fn from(expected: Expected) -> LineFault {
         LineFault::Unlike(expected)
     }
 }
 
 impl From<AllocError> for LineFault {
+    ghost from_gives = { λ _ e. e ≡ NoMemory };
+
     fn from(_e: AllocError) -> LineFault {
         LineFault::Memory
     }
 }
 
 impl<T: Drop> From<AllocFailed<T>> for LineFault {
+    ghost from_gives = { λ _ e. e ≡ NoMemory };
+
     fn from(_e: AllocFailed<T>) -> LineFault {
         LineFault::Memory
     }

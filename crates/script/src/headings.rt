@@ -1,7 +1,15 @@
 // The headings of a text: what is played, over which values, and with what.
+ghost use Rattle.std.specs.Prelude.{◌≡◌, ◌≢◌, ◌+◌, Some, None, Err, IfOk, OnOk, OnErr, IsTrue};
+ghost use Rattle.script.specs.Headings.{heading_name, count_refused, kind_name, missing_heading, is_full, lines_of};
+ghost use Rattle.script.specs.declared.headings.Heading.TheVariants.{Cells};
+ghost use Rattle.script.specs.declared.faults.Expected.TheVariants.{NoMore};
+ghost use Rattle.script.specs.declared.faults.LineFault.TheVariants.{Unlike};
+
 use crate::faults::{Expected, LineFault};
-use crate::words::{all_bytes, all_numbers, end, number, one_number};
+use crate::words::{Words, byte, number};
 use std::alloc::Global;
+use std::fmt;
+use std::str::FromStr;
 
 #[derive(Clone, Copy, Debug)]
 pub enum Heading {
@@ -15,23 +23,34 @@ pub enum Heading {
     Answers,
 }
 
-impl Heading {
-    pub fn of(word: &str) -> Option<Heading> {
+impl FromStr for Heading {
+    ghost use Rattle.script.specs.declared.headings.Heading.{Heading};
+
+    type Err = Expected;
+
+    // The heading of this name, and an error only where no heading has it.
+    ghost from_str_gives = { λ word r. IfOk r (λ h. heading_name h ≡ word) × OnErr r ((h : Heading) → heading_name h ≢ word) };
+
+    fn from_str(word: &str) -> Result<Heading, Expected> {
         match word {
-            "sheet" => Some(Heading::Sheet),
-            "kind" => Some(Heading::Kind),
-            "tries" => Some(Heading::Tries),
-            "cells" => Some(Heading::Cells),
-            "watch" => Some(Heading::Watch),
-            "tables" => Some(Heading::Tables),
-            "working" => Some(Heading::Working),
-            "answers" => Some(Heading::Answers),
-            _ => None,
+            "sheet" => Ok(Heading::Sheet),
+            "kind" => Ok(Heading::Kind),
+            "tries" => Ok(Heading::Tries),
+            "cells" => Ok(Heading::Cells),
+            "watch" => Ok(Heading::Watch),
+            "tables" => Ok(Heading::Tables),
+            "working" => Ok(Heading::Working),
+            "answers" => Ok(Heading::Answers),
+            _ => Err(Expected::Line),
         }
     }
+}
 
-    pub fn name(self) -> &'static str {
-        match self {
+impl fmt::Display for Heading {
+    ghost output = { λ h. Some (heading_name h) };
+
+    fn fmt<W: fmt::Write>(&self, f: &mut fmt::Formatter<W>) -> fmt::Result {
+        f.write_str(match *self {
             Heading::Sheet => "sheet",
             Heading::Kind => "kind",
             Heading::Tries => "tries",
@@ -40,11 +59,15 @@ impl Heading {
             Heading::Tables => "tables",
             Heading::Working => "working",
             Heading::Answers => "answers",
-        }
+        })
     }
+}
 
+impl Heading {
     // Which line of this heading is one too many.
-    pub fn count_refused(self) -> &'static str {
+    pub fn count_refused(self) -> &'static str
+        ensures { result.now ≡ count_refused self }
+    {
         match self {
             Heading::Cells => "third",
             _ => "second",
@@ -56,6 +79,22 @@ impl Heading {
 pub enum ValueKind {
     Numbers,
     Sets,
+}
+
+impl FromStr for ValueKind {
+    ghost use Rattle.script.specs.declared.headings.ValueKind.{ValueKind};
+
+    type Err = Expected;
+
+    ghost from_str_gives = { λ word r. IfOk r (λ k. kind_name k ≡ word) × OnErr r ((k : ValueKind) → kind_name k ≢ word) };
+
+    fn from_str(word: &str) -> Result<ValueKind, Expected> {
+        match word {
+            "numbers" => Ok(ValueKind::Numbers),
+            "sets" => Ok(ValueKind::Sets),
+            _ => Err(Expected::Kind),
+        }
+    }
 }
 
 // A watcher that stands over no other.
@@ -71,6 +110,38 @@ pub struct Watch {
     pub base: Base,
 }
 
+impl Watch {
+    fn read(words: &mut Words) -> Result<Watch, Expected> {
+        match words.word() {
+            "allowance" => {
+                let left = words.number()?;
+                let word = words.word();
+                Ok(Watch {
+                    allowance: Some(left),
+                    base: Base::read(word, words, Expected::Below)?,
+                })
+            }
+            word => Ok(Watch {
+                allowance: None,
+                base: Base::read(word, words, Expected::Watcher)?,
+            }),
+        }
+    }
+}
+
+impl Base {
+    // The watcher that this word and those after it name; where they name none, `otherwise` was expected.
+    fn read(word: &str, words: &mut Words, otherwise: Expected) -> Result<Base, Expected> {
+        match word {
+            "tally" => Ok(Base::Tally),
+            "roll" => Ok(Base::Roll {
+                places: words.number()?,
+            }),
+            _ => Err(otherwise),
+        }
+    }
+}
+
 // The lengths of the tables that a round is lent.
 #[derive(Clone, Copy)]
 pub struct Lengths {
@@ -79,8 +150,18 @@ pub struct Lengths {
     pub steps: u32,
 }
 
+impl Lengths {
+    fn read(words: &mut Words) -> Result<Lengths, Expected> {
+        Ok(Lengths {
+            lines: words.number()?,
+            marks: words.number()?,
+            steps: words.number()?,
+        })
+    }
+}
+
 // The headings read so far.
-#[derive(Drop)]
+#[derive(Default, Drop)]
 pub struct Headings {
     pub sheet: Option<Vec<u8>>,
     pub kind: Option<ValueKind>,
@@ -94,22 +175,10 @@ pub struct Headings {
 }
 
 impl Headings {
-    pub fn none() -> Headings {
-        Headings {
-            sheet: None,
-            kind: None,
-            tries: None,
-            first: None,
-            second: None,
-            watch: None,
-            tables: None,
-            working: None,
-            answers: None,
-        }
-    }
-
     // The first heading that a text owes and that is not there.
-    pub fn missing(&self) -> Option<Heading> {
+    pub fn missing(&self) -> Option<Heading>
+        ensures { result ≡ missing_heading self.now }
+    {
         if self.sheet.is_none() {
             Some(Heading::Sheet)
         } else if self.kind.is_none() {
@@ -126,7 +195,9 @@ impl Headings {
     }
 
     // Whether another line of this heading is one too many.
-    fn is_full(&self, heading: Heading) -> bool {
+    fn is_full(&self, heading: Heading) -> bool
+        ensures { result ≡ is_full self.now heading }
+    {
         match heading {
             Heading::Sheet => self.sheet.is_some(),
             Heading::Kind => self.kind.is_some(),
@@ -139,7 +210,11 @@ impl Headings {
         }
     }
 
-    fn add_cells(&mut self, cells: Vec<u32>) {
+    fn add_cells(&mut self, cells: Vec<u32>)
+        requires { self.old.second ≡ None }
+        ensures lines { lines_of self.new Cells ≡ lines_of self.old Cells + 1 }
+        ensures others { (h : Heading) → h ≢ Cells → lines_of self.new h ≡ lines_of self.old h }
+    {
         if self.first.is_none() {
             self.first = Some(cells);
         } else {
@@ -147,86 +222,30 @@ impl Headings {
         }
     }
 
-    // Takes a line that begins with this heading.
-    pub fn add(&mut self, heap: Global, heading: Heading, line: &str) -> Result<(), LineFault> {
+    // Takes a line of this heading, by the words after its name.
+    pub fn add(
+        &mut self,
+        heap: Global,
+        heading: Heading,
+        words: &mut Words,
+    ) -> Result<(), LineFault>
+        ensures full { IsTrue (is_full self.old heading) → result ≡ Err (Unlike (NoMore heading)) }
+        ensures lines { OnOk result (lines_of self.new heading ≡ lines_of self.old heading + 1) }
+        ensures others { OnOk result ((h : Heading) → h ≢ heading → lines_of self.new h ≡ lines_of self.old h) }
+    {
         if self.is_full(heading) {
             return Err(LineFault::Unlike(Expected::NoMore(heading)));
         }
         match heading {
-            Heading::Sheet => {
-                self.sheet = Some(all_bytes(heap, line)?);
-            }
-            Heading::Kind => {
-                self.kind = Some(kind_of(line)?);
-            }
-            Heading::Tries => {
-                self.tries = Some(one_number(line)?);
-            }
-            Heading::Cells => {
-                self.add_cells(all_numbers(heap, line)?);
-            }
-            Heading::Watch => {
-                self.watch = Some(watch_of(line)?);
-            }
-            Heading::Tables => {
-                self.tables = Some(lengths_of(line)?);
-            }
-            Heading::Working => {
-                self.working = Some(one_number(line)?);
-            }
-            Heading::Answers => {
-                self.answers = Some(one_number(line)?);
-            }
+            Heading::Sheet => self.sheet = Some(words.all(heap, byte)?),
+            Heading::Kind => self.kind = Some(words.word().parse::<ValueKind>()?),
+            Heading::Tries => self.tries = Some(words.number()?),
+            Heading::Cells => self.add_cells(words.all(heap, number)?),
+            Heading::Watch => self.watch = Some(Watch::read(words)?),
+            Heading::Tables => self.tables = Some(Lengths::read(words)?),
+            Heading::Working => self.working = Some(words.number()?),
+            Heading::Answers => self.answers = Some(words.number()?),
         }
-        Ok(())
+        Ok(words.end()?)
     }
-}
-
-fn kind_of(line: &str) -> Result<ValueKind, Expected> {
-    let mut words = line.split_whitespace().skip(1);
-    let kind = match words.next() {
-        Some("numbers") => ValueKind::Numbers,
-        Some("sets") => ValueKind::Sets,
-        _ => {
-            return Err(Expected::Kind);
-        }
-    };
-    end(words.next())?;
-    Ok(kind)
-}
-
-fn lengths_of(line: &str) -> Result<Lengths, Expected> {
-    let mut words = line.split_whitespace().skip(1);
-    let lines = number(words.next())?;
-    let marks = number(words.next())?;
-    let steps = number(words.next())?;
-    end(words.next())?;
-    Ok(Lengths {
-        lines,
-        marks,
-        steps,
-    })
-}
-
-fn watch_of(line: &str) -> Result<Watch, Expected> {
-    let mut words = line.split_whitespace().skip(1);
-    let mut allowance = None;
-    let mut word = words.next();
-    let mut otherwise = Expected::Watcher;
-    if word == Some("allowance") {
-        allowance = Some(number(words.next())?);
-        word = words.next();
-        otherwise = Expected::Below;
-    }
-    let base = match word {
-        Some("tally") => Base::Tally,
-        Some("roll") => Base::Roll {
-            places: number(words.next())?,
-        },
-        _ => {
-            return Err(otherwise);
-        }
-    };
-    end(words.next())?;
-    Ok(Watch { allowance, base })
 }

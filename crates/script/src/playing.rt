@@ -3,13 +3,13 @@ ghost use Rattle.std.specs.Prelude.{◌≡◌, min};
 
 use crate::headings::{Base, Lengths, ValueKind};
 use crate::reading::Script;
-use crate::telling::{both, cards_alike, cards_line, pair_text, refusal_text, round_text};
-use crate::watching::Shown;
+use crate::telling::{Told, cards_alike, cards_line, pair_text, refused_text, round_text};
 use onepath::Step;
 use protocol::{Answer, Call};
-use session::{Board, PlayFault, play_list, play_pair};
-use sheet::{Fault, Line};
+use session::{Board, play_list, play_pair};
+use sheet::Line;
 use std::alloc::{AllocError, Global};
+use std::fmt::Display;
 use value::{Candidates, Number, Value};
 use watch::{Allowance, Roll, Tally, Watcher};
 
@@ -21,12 +21,20 @@ struct Tables {
     steps: Vec<Step>,
 }
 
-// What a round is lent of its own.
+// What a round has of its own: what it is lent, and its watcher.
 #[derive(Drop)]
-struct Hand<V> {
+struct Seat<V, W> {
     setter: Vec<V>,
     working: Vec<V>,
     answers: Vec<Answer>,
+    watcher: W,
+}
+
+// What is played, and whose memory it takes.
+#[derive(Clone, Copy)]
+struct Playing<'a> {
+    heap: Global,
+    script: &'a Script,
 }
 
 // What is lent for a length that is asked for: no more than makes a difference.
@@ -36,223 +44,197 @@ fn lent(asked: u32, most: usize) -> usize
     most.min(asked as usize)
 }
 
-// No sheet has more than 512 lines or 64 cells, or gives more than 1024 steps.
-fn tables_for(heap: Global, asked: Option<Lengths>) -> Result<Tables, AllocError> {
-    let lengths = asked.unwrap_or(Lengths {
-        lines: 512,
-        marks: 64,
-        steps: 1024,
-    });
-    Ok(Tables {
-        lines: vec![in heap; Line::Else { partner: 0 }; lent(lengths.lines, 512)]?,
-        marks: vec![in heap; false; lent(lengths.marks, 64)]?,
-        steps: vec![in heap; Step::Jump { to: 0 }; lent(lengths.steps, 1024)]?,
-    })
-}
-
-// More than 64 working cells are too many for any sheet, and a spare answer is like any other.
-fn hand_for<V: Value>(heap: Global, script: &Script, cells: &[u32]) -> Result<Hand<V>, AllocError> {
-    let mut setter = Vec::new(heap);
-    for n in cells {
-        setter.push(V::literal(*n))?;
-    }
-    let length = match script.working {
-        Some(asked) => lent(asked, 65),
-        None => cells.len(),
-    };
-    let mut working = Vec::new(heap);
-    for _ in 0..length {
-        working.push(V::literal(0))?;
-    }
-    let calls = script.calls.len();
-    let answers = match script.answers {
-        Some(asked) => lent(asked, calls.saturating_add(1)),
-        None => calls,
-    };
-    Ok(Hand {
-        setter,
-        working,
-        answers: vec![in heap; Answer::Done; answers]?,
-    })
-}
-
 // How many places the calls can come to: no advance comes to more than the steps that it asks for.
 fn most_places(calls: &[Call]) -> usize {
-    let mut most: usize = 0;
-    for call in calls {
-        if let Call::Advance { steps } = call {
-            most = most.saturating_add(*steps as usize);
+    calls
+        .iter()
+        .filter_map(|call| match call {
+            Call::Advance { steps } => Some(*steps as usize),
+            _ => None,
+        })
+        .fold(0, |most, steps| most.saturating_add(steps))
+}
+
+impl<'a> Playing<'a> {
+    // No sheet has more than 512 lines or 64 cells, or gives more than 1024 steps.
+    fn tables(&self) -> Result<Tables, AllocError> {
+        let heap = self.heap;
+        let lengths = self.script.tables.unwrap_or(Lengths {
+            lines: 512,
+            marks: 64,
+            steps: 1024,
+        });
+        Ok(Tables {
+            lines: vec![in heap; Line::Else { partner: 0 }; lent(lengths.lines, 512)]?,
+            marks: vec![in heap; false; lent(lengths.marks, 64)]?,
+            steps: vec![in heap; Step::Jump { to: 0 }; lent(lengths.steps, 1024)]?,
+        })
+    }
+
+    // More than 64 working cells are too many for any sheet, and a spare answer is like any other.
+    fn seat<V: Value, W: Watcher + Drop>(
+        &self,
+        cells: &[u32],
+        watcher: W,
+    ) -> Result<Seat<V, W>, AllocError> {
+        let heap = self.heap;
+        let calls = self.script.calls.len();
+        let working = self
+            .script
+            .working
+            .map_or(cells.len(), |asked| lent(asked, 65));
+        let answers = self
+            .script
+            .answers
+            .map_or(calls, |asked| lent(asked, calls.saturating_add(1)));
+        Ok(Seat {
+            setter: cells.iter().map(|n| V::literal(*n)).collect(heap)?,
+            working: vec![in heap; V::literal(0); working]?,
+            answers: vec![in heap; Answer::Done; answers]?,
+            watcher,
+        })
+    }
+
+    fn play_one<V: Value, W: Watcher + Display + Drop>(
+        &self,
+        watcher: W,
+    ) -> Result<String, AllocError> {
+        let heap = self.heap;
+        let script = self.script;
+        let mut tables = self.tables()?;
+        let mut seat = self.seat::<V, W>(script.first.as_slice(), watcher)?;
+        let played = play_list(
+            script.sheet.as_slice(),
+            &mut session::Tables {
+                lines: &mut tables.lines,
+                marks: &mut tables.marks,
+                steps: &mut tables.steps,
+            },
+            script.tries,
+            &mut Board {
+                setter: &mut seat.setter,
+                working: &mut seat.working,
+                watcher: &mut seat.watcher,
+            },
+            script.calls.as_slice(),
+            &mut seat.answers,
+        );
+        if let Err(fault) = played {
+            return refused_text(heap, fault);
+        }
+        let watched = seat.watcher.to_string(heap)?;
+        round_text(heap, script.words.as_slice(), seat.told(watched.as_str()))
+    }
+
+    fn play_two<V: Value, W: Watcher + Display + Drop>(
+        &self,
+        cells: &[u32],
+        first: W,
+        second: W,
+    ) -> Result<String, AllocError> {
+        let heap = self.heap;
+        let script = self.script;
+        let mut tables = self.tables()?;
+        let mut one = self.seat::<V, W>(script.first.as_slice(), first)?;
+        let mut other = self.seat::<V, W>(cells, second)?;
+        let played = play_pair(
+            script.sheet.as_slice(),
+            &mut session::Tables {
+                lines: &mut tables.lines,
+                marks: &mut tables.marks,
+                steps: &mut tables.steps,
+            },
+            script.tries,
+            &mut Board {
+                setter: &mut one.setter,
+                working: &mut one.working,
+                watcher: &mut one.watcher,
+            },
+            &mut Board {
+                setter: &mut other.setter,
+                working: &mut other.working,
+                watcher: &mut other.watcher,
+            },
+            script.calls.as_slice(),
+            &mut one.answers,
+            &mut other.answers,
+        );
+        if let Err(fault) = played {
+            return refused_text(heap, fault);
+        }
+        self.cards(&one, &other)
+    }
+
+    // What is printed of two rounds that were played.
+    fn cards<V, W: Display>(
+        &self,
+        one: &Seat<V, W>,
+        other: &Seat<V, W>,
+    ) -> Result<String, AllocError> {
+        let heap = self.heap;
+        let watched = one.watcher.to_string(heap)?;
+        let other_watched = other.watcher.to_string(heap)?;
+        let first = one.told(watched.as_str());
+        let second = other.told(other_watched.as_str());
+        let mut text = pair_text(heap, self.script.words.as_slice(), first, second)?;
+        text.push_str(cards_line(cards_alike(first, second)))?;
+        Ok(text)
+    }
+
+    fn play_rounds<V: Value, W: Watcher + Display + Drop>(
+        &self,
+        first: W,
+        second: W,
+    ) -> Result<String, AllocError> {
+        match &self.script.second {
+            None => self.play_one::<V, W>(first),
+            Some(cells) => self.play_two::<V, W>(cells.as_slice(), first, second),
         }
     }
-    most
-}
 
-fn refused_play(heap: Global, fault: PlayFault) -> Result<String, AllocError> {
-    let mut text = refusal_text(heap, fault.number(), fault.place())?;
-    text.push('\n')?;
-    Ok(text)
-}
-
-fn play_one<V: Value, W: Watcher + Shown + Drop>(
-    heap: Global,
-    script: &Script,
-    mut watcher: W,
-) -> Result<String, AllocError> {
-    let mut tables = tables_for(heap, script.tables)?;
-    let mut hand = hand_for::<V>(heap, script, script.first.as_slice())?;
-    let played = play_list(
-        script.sheet.as_slice(),
-        &mut session::Tables {
-            lines: &mut tables.lines,
-            marks: &mut tables.marks,
-            steps: &mut tables.steps,
-        },
-        script.tries,
-        &mut Board {
-            setter: &mut hand.setter,
-            working: &mut hand.working,
-            watcher: &mut watcher,
-        },
-        script.calls.as_slice(),
-        &mut hand.answers,
-    );
-    if let Err(fault) = played {
-        return refused_play(heap, fault);
+    fn play_allowed<V: Value, W: Watcher + Display + Drop>(
+        &self,
+        first: W,
+        second: W,
+    ) -> Result<String, AllocError> {
+        match self.script.watch.allowance {
+            None => self.play_rounds::<V, W>(first, second),
+            Some(left) => self.play_rounds::<V, Allowance<W>>(
+                Allowance::new(left, first),
+                Allowance::new(left, second),
+            ),
+        }
     }
-    let watched = watcher.shown(heap)?;
-    round_text(
-        heap,
-        script.words.as_slice(),
-        hand.answers.as_slice(),
-        watched.as_str(),
-    )
-}
 
-fn play_hands<V: Value, W: Watcher>(
-    script: &Script,
-    tables: &mut Tables,
-    one: &mut Hand<V>,
-    other: &mut Hand<V>,
-    first: &mut W,
-    second: &mut W,
-) -> Result<(), PlayFault> {
-    play_pair(
-        script.sheet.as_slice(),
-        &mut session::Tables {
-            lines: &mut tables.lines,
-            marks: &mut tables.marks,
-            steps: &mut tables.steps,
-        },
-        script.tries,
-        &mut Board {
-            setter: &mut one.setter,
-            working: &mut one.working,
-            watcher: first,
-        },
-        &mut Board {
-            setter: &mut other.setter,
-            working: &mut other.working,
-            watcher: second,
-        },
-        script.calls.as_slice(),
-        &mut one.answers,
-        &mut other.answers,
-    )
-}
-
-// What is printed of two rounds that were played.
-fn pair_cards<W: Shown>(
-    heap: Global,
-    words: &[String],
-    one: &[Answer],
-    other: &[Answer],
-    first: &W,
-    second: &W,
-) -> Result<String, AllocError> {
-    let watched = first.shown(heap)?;
-    let other_watched = second.shown(heap)?;
-    let watchers = both(heap, watched.as_str(), other_watched.as_str())?;
-    let mut text = pair_text(heap, words, one, other, watchers.as_str())?;
-    let alike = cards_alike(watched.as_str(), other_watched.as_str(), one, other);
-    text.push_str(cards_line(alike))?;
-    Ok(text)
-}
-
-fn play_two<V: Value, W: Watcher + Shown + Drop>(
-    heap: Global,
-    script: &Script,
-    cells: &[u32],
-    mut first: W,
-    mut second: W,
-) -> Result<String, AllocError> {
-    let mut tables = tables_for(heap, script.tables)?;
-    let mut one = hand_for::<V>(heap, script, script.first.as_slice())?;
-    let mut other = hand_for::<V>(heap, script, cells)?;
-    if let Err(fault) = play_hands(
-        script,
-        &mut tables,
-        &mut one,
-        &mut other,
-        &mut first,
-        &mut second,
-    ) {
-        return refused_play(heap, fault);
-    }
-    pair_cards(
-        heap,
-        script.words.as_slice(),
-        one.answers.as_slice(),
-        other.answers.as_slice(),
-        &first,
-        &second,
-    )
-}
-
-fn play_rounds<V: Value, W: Watcher + Shown + Drop>(
-    heap: Global,
-    script: &Script,
-    first: W,
-    second: W,
-) -> Result<String, AllocError> {
-    match &script.second {
-        None => play_one::<V, W>(heap, script, first),
-        Some(cells) => play_two::<V, W>(heap, script, cells.as_slice(), first, second),
+    fn play_watched<V: Value>(&self) -> Result<String, AllocError> {
+        let heap = self.heap;
+        match self.script.watch.base {
+            Base::Tally => self.play_allowed::<V, Tally>(Tally::new(), Tally::new()),
+            Base::Roll { places } => {
+                let length = lent(places, most_places(self.script.calls.as_slice()));
+                let mut list = vec![in heap; 0usize; length]?;
+                let mut other = vec![in heap; 0usize; length]?;
+                self.play_allowed::<V, Roll>(Roll::new(&mut list), Roll::new(&mut other))
+            }
+        }
     }
 }
 
-fn play_allowed<V: Value, W: Watcher + Shown + Drop>(
-    heap: Global,
-    script: &Script,
-    first: W,
-    second: W,
-) -> Result<String, AllocError> {
-    match script.watch.allowance {
-        None => play_rounds::<V, W>(heap, script, first, second),
-        Some(left) => play_rounds::<V, Allowance<W>>(
-            heap,
-            script,
-            Allowance::new(left, first),
-            Allowance::new(left, second),
-        ),
-    }
-}
-
-fn play_watched<V: Value>(heap: Global, script: &Script) -> Result<String, AllocError> {
-    match script.watch.base {
-        Base::Tally => play_allowed::<V, Tally>(heap, script, Tally::new(), Tally::new()),
-        Base::Roll { places } => {
-            let length = lent(places, most_places(script.calls.as_slice()));
-            let mut list = vec![in heap; 0usize; length]?;
-            let mut other = vec![in heap; 0usize; length]?;
-            play_allowed::<V, Roll>(heap, script, Roll::new(&mut list), Roll::new(&mut other))
+impl<V, W> Seat<V, W> {
+    // What the round told, with its watcher in these words.
+    fn told<'a>(&'a self, watched: &'a str) -> Told<'a> {
+        Told {
+            answers: self.answers.as_slice(),
+            watched,
         }
     }
 }
 
 // The text to print of a script.
 pub fn play_script(heap: Global, script: &Script) -> Result<String, AllocError> {
+    let playing = Playing { heap, script };
     match script.kind {
-        ValueKind::Numbers => play_watched::<Number>(heap, script),
-        ValueKind::Sets => play_watched::<Candidates>(heap, script),
+        ValueKind::Numbers => playing.play_watched::<Number>(),
+        ValueKind::Sets => playing.play_watched::<Candidates>(),
     }
 }

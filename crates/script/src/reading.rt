@@ -1,12 +1,17 @@
 // A text as what is to be played.
+ghost use Rattle.std.specs.Prelude.{◌≡◌, ◌≤◌, ◌==◌, length, count_by, Err, OnOk};
+ghost use Rattle.std.specs.Str.{IsUtf8};
+ghost use Rattle.script.specs.Faults.{line_at, not_text};
+
 use crate::faults::{Expected, LineFault, ScriptFault, TextFault};
 use crate::headings::{Heading, Headings, Lengths, ValueKind, Watch};
-use crate::words::{end, joined, number};
+use crate::words::{Words, joined};
 use protocol::Call;
 use std::alloc::Global;
 use std::str::from_utf8;
 
-// What is to be played. `words` has the text of each call.
+// What is to be played. `words` has each call as it was written, which is how it is printed: beside `calls`, since rounds
+// are played from a slice of calls.
 #[derive(Drop)]
 pub struct Script {
     pub sheet: Vec<u8>,
@@ -30,28 +35,29 @@ struct Reading {
     words: Vec<String>,
 }
 
-// The call of a line; none if it begins with no call's word.
+// The call of a line; none if it begins with no call's word. Each word is matched where the numbers after it are read,
+// since a list of the calls' words beside this match would be no plainer.
 fn call_of(line: &str) -> Result<Option<Call>, Expected> {
-    let mut words = line.split_whitespace();
-    let call = match words.next() {
-        Some("put") => Call::Put {
-            cell: number(words.next())? as usize,
-            number: number(words.next())?,
+    let mut words = Words::of(line);
+    let call = match words.word() {
+        "put" => Call::Put {
+            cell: words.number()? as usize,
+            number: words.number()?,
         },
-        Some("start") => Call::Start,
-        Some("advance") => Call::Advance {
-            steps: number(words.next())?,
+        "start" => Call::Start,
+        "advance" => Call::Advance {
+            steps: words.number()?,
         },
-        Some("look") => Call::Look {
-            cell: number(words.next())? as usize,
+        "look" => Call::Look {
+            cell: words.number()? as usize,
         },
-        Some("withdraw") => Call::Withdraw,
-        Some("score") => Call::Score,
+        "withdraw" => Call::Withdraw,
+        "score" => Call::Score,
         _ => {
             return Ok(None);
         }
     };
-    end(words.next())?;
+    words.end()?;
     Ok(Some(call))
 }
 
@@ -78,19 +84,18 @@ impl Reading {
     }
 
     fn add(&mut self, heap: Global, line: &str) -> Result<(), LineFault> {
-        let Some(word) = line.split_whitespace().next() else {
-            return Ok(());
-        };
-        if word.starts_with('#') {
+        let mut words = Words::of(line);
+        let word = words.word();
+        if word.is_empty() || word.starts_with('#') {
             return Ok(());
         }
-        let Some(heading) = Heading::of(word) else {
+        let Ok(heading) = word.parse::<Heading>() else {
             return self.add_call(heap, line);
         };
         if !self.calls.is_empty() {
             return Err(LineFault::Unlike(Expected::Call));
         }
-        self.headings.add(heap, heading, line)
+        self.headings.add(heap, heading, &mut words)
     }
 
     // The whole text is read.
@@ -116,37 +121,42 @@ impl Reading {
     }
 }
 
+fn newlines(text: &[u8]) -> usize
+    ensures count { result ≡ count_by (λ b. b == 10) text.now }
+    ensures within { result ≤ length text.now }
+{
+    text.iter().filter(|byte| **byte == b'\n').count()
+}
+
 // The line, counted from 1, that this byte stands in.
-fn line_of(text: &[u8], at: usize) -> usize {
-    let mut line: usize = 1;
-    for byte in text.iter().take(at) {
-        if *byte == b'\n' {
-            line = line.saturating_add(1);
-        }
-    }
-    line
+fn line_of(text: &[u8], at: usize) -> usize
+    ensures { result ≡ line_at text.now at }
+{
+    let before = at.min(text.len());
+    newlines(&text[..before]) + 1
 }
 
 fn read_lines(heap: Global, text: &str) -> Result<Script, ScriptFault> {
     let mut reading = Reading {
-        headings: Headings::none(),
+        headings: Headings::default(),
         calls: Vec::new(heap),
         words: Vec::new(heap),
     };
-    let mut number: usize = 1;
-    for line in text.lines() {
-        if let Err(fault) = reading.add(heap, line) {
-            return Err(fault.at(number));
-        }
-        number = number.saturating_add(1);
+    for (before, line) in text.lines().enumerate() {
+        reading
+            .add(heap, line)
+            .map_err(|fault| fault.at(before.saturating_add(1)))?;
     }
-    match reading.finish() {
-        Ok(script) => Ok(script),
-        Err(expected) => Err(LineFault::Unlike(expected).at(number)),
-    }
+    let end = text.lines().count().saturating_add(1);
+    reading
+        .finish()
+        .map_err(|expected| LineFault::Unlike(expected).at(end))
 }
 
-pub fn read_script(heap: Global, text: &[u8]) -> Result<Script, ScriptFault> {
+pub fn read_script(heap: Global, text: &[u8]) -> Result<Script, ScriptFault>
+    ensures text { OnOk result (IsUtf8 text.now) }
+    ensures no_text { ¬ (IsUtf8 text.now) → result ≡ Err (not_text text.now) }
+{
     match from_utf8(text) {
         Ok(text) => read_lines(heap, text),
         Err(fault) => Err(ScriptFault::Unreadable(TextFault {

@@ -1,109 +1,68 @@
 // What is printed of the answers.
-ghost use Rattle.std.specs.Prelude.{◌≡◌, ◌++◌, map, IfOk, string_bytes, decimal, Decides};
+ghost use Rattle.std.specs.Prelude.{◌≡◌, ◌++◌, map, codes, IfOk, string_bytes, Decides};
+ghost use Rattle.std.specs.List.{zip};
 ghost use Rattle.protocol.specs.Promise.{shared};
-ghost use Rattle.protocol.specs.declared.answers.Ending.TheVariants.{Broken};
-ghost use Rattle.script.specs.Texts.{refusal_text, score_text, walk_text, answer_text, cards_text};
+ghost use Rattle.protocol.specs.Texts.{answer_text};
+ghost use Rattle.sheet.specs.Words.{refusal_text};
+ghost use Rattle.script.specs.Texts.{call_lines, both_text, answers_text, round_text, pair_text, cards_text};
 
-use protocol::{Advanced, Answer, Ending, Score};
-use sheet::Fault;
+use protocol::Answer;
+use sheet::{Fault, Refused};
 use std::alloc::{AllocError, Global};
 
-pub fn refusal_text(heap: Global, number: u32, place: usize) -> Result<String, AllocError>
-    ensures { IfOk result (λ s. string_bytes s ≡ refusal_text number place) }
-{
-    format!(in heap; "refused {number} at {place}")
+// What a round told: its answers, and its watcher in words.
+#[derive(Clone, Copy)]
+pub struct Told<'a> {
+    pub answers: &'a [Answer],
+    pub watched: &'a str,
 }
 
-fn score_text(score: Score) -> &'static str
-    ensures { result.now ≡ score_text score }
+// The line that is printed of what is refused.
+pub fn refused_text<F: Fault>(heap: Global, fault: F) -> Result<String, AllocError>
+    ensures { IfOk result (λ s. string_bytes s ≡ refusal_text (F.numbered fault) (F.placed fault) ++ codes "\n") }
 {
-    match score {
-        Score::Right => "right",
-        Score::Wrong => "wrong",
-        Score::Void => "void",
-    }
-}
-
-// A number, and what is counted.
-fn counted(heap: Global, number: u32, what: &str) -> Result<String, AllocError>
-    ensures { IfOk result (λ s. string_bytes s ≡ decimal number ++ what.now) }
-{
-    let mut text = format!(in heap; "{number}")?;
-    text.push_str(what)?;
-    Ok(text)
-}
-
-fn broken_text(heap: Global, steps: u32, line: usize) -> Result<String, AllocError>
-    ensures { IfOk result (λ s. string_bytes s ≡ walk_text steps (Broken line)) }
-{
-    format!(in heap; "{steps} steps, broken at line {line}")
-}
-
-fn walk_text(heap: Global, advanced: Advanced) -> Result<String, AllocError>
-    ensures { IfOk result (λ s. string_bytes s ≡ walk_text advanced.steps advanced.ending) }
-{
-    let steps = advanced.steps;
-    match advanced.ending {
-        Ending::Paused => counted(heap, steps, " steps, paused"),
-        Ending::Ended => counted(heap, steps, " steps, ended"),
-        Ending::Broken { line } => broken_text(heap, steps, line),
-        Ending::Stopped => counted(heap, steps, " steps, stopped"),
-    }
-}
-
-pub fn answer_text(heap: Global, answer: Answer) -> Result<String, AllocError>
-    ensures { IfOk result (λ s. string_bytes s ≡ answer_text answer) }
-{
-    match answer {
-        Answer::Done => String::from_str(heap, "done"),
-        Answer::Left { tries } => counted(heap, tries, " tries left"),
-        Answer::Walked { advanced } => walk_text(heap, advanced),
-        Answer::Shown { code } => format!(in heap; "{code}"),
-        Answer::Scored { score } => String::from_str(heap, score_text(score)),
-        Answer::Refused { refusal } => refusal_text(heap, refusal.number(), refusal.place()),
-    }
+    let refused = Refused(fault);
+    format!(in heap; "{refused}\n")
 }
 
 // What two rounds tell: once where it is alike, else the first's and the second's.
-pub fn both(heap: Global, first: &str, second: &str) -> Result<String, AllocError> {
-    let mut text = String::from_str(heap, first)?;
-    if first != second {
-        text.push_str(" | ")?;
-        text.push_str(second)?;
+pub fn both(heap: Global, first: &str, second: &str) -> Result<String, AllocError>
+    ensures { IfOk result (λ s. string_bytes s ≡ both_text first.now second.now) }
+{
+    if first == second {
+        String::from_str(heap, first)
+    } else {
+        format!(in heap; "{first} | {second}")
     }
-    Ok(text)
 }
 
-// Whether two answers are alike but for what accepted scores say.
-fn alike(first: Answer, second: Answer) -> bool
-    ensures { Decides result (shared first ≡ shared second) }
+// What an answer says to everybody: all of it, but for what an accepted score says.
+fn shared(answer: &Answer) -> Option<Answer>
+    ensures { result ≡ shared answer.now }
 {
-    match (first, second) {
-        (Answer::Scored { score: _ }, Answer::Scored { score: _ }) => true,
-        _ => first == second,
+    match answer {
+        Answer::Scored { score: _ } => None,
+        told => Some(*told),
     }
+}
+
+// Whether two rounds told the same but for what accepted scores say.
+pub fn cards_alike(first: Told, second: Told) -> bool
+    ensures { Decides result ((first.entry.watched.now ≡ second.entry.watched.now) × (map shared first.entry.answers.now ≡ map shared second.entry.answers.now)) }
+{
+    first.watched == second.watched && all_alike(first.answers, second.answers)
 }
 
 // Whether the answers are alike, one by one, but for what accepted scores say.
 fn all_alike(first: &[Answer], second: &[Answer]) -> bool
     ensures { Decides result (map shared first.now ≡ map shared second.now) }
 {
-    if first.len() != second.len() {
-        return false;
-    }
-    for i in 0..first.len() {
-        if !alike(first[i], second[i]) {
-            return false;
-        }
-    }
-    true
-}
-
-// Whether two rounds told the same but for what accepted scores say: their answers, and their watchers in words.
-pub fn cards_alike(watched: &str, other_watched: &str, first: &[Answer], second: &[Answer]) -> bool
-    ensures { Decides result ((watched.now ≡ other_watched.now) × (map shared first.now ≡ map shared second.now)) }
-{
-    watched == other_watched && all_alike(first, second)
+    first.len() == second.len()
+        && first
+            .iter()
+            .map(shared)
+            .zip(second.iter().map(shared))
+            .all(|(one, other)| one == other)
 }
 
 // The line that says so.
@@ -117,26 +76,48 @@ pub fn cards_line(alike: bool) -> &'static str
     }
 }
 
-fn add_line(text: &mut String, call: &String, told: &String) -> Result<(), AllocError> {
-    text.push_str(call.as_str())?;
-    text.push_str(": ")?;
-    text.push_str(told.as_str())?;
-    text.push('\n')
+// The calls, each with what is told of it.
+fn call_lines(heap: Global, calls: &[String], tells: &[String]) -> Result<String, AllocError>
+    ensures { IfOk result (λ s. string_bytes s ≡ call_lines (map string_bytes calls.now) (map string_bytes tells.now)) }
+{
+    let mut text = String::new(heap);
+    for (call, told) in calls.iter().zip(tells) {
+        writeln!(text, "{call}: {told}")?;
+    }
+    Ok(text)
+}
+
+// The answers in words.
+fn answers_told(heap: Global, answers: &[Answer]) -> Result<Vec<String>, AllocError>
+    ensures { IfOk result (λ told. map string_bytes told.items ≡ map answer_text answers.now) }
+{
+    let mut told = Vec::new(heap);
+    for answer in answers {
+        told.push(answer.to_string(heap)?)?;
+    }
+    Ok(told)
+}
+
+// The answers of two rounds in words.
+fn both_told(heap: Global, first: &[Answer], second: &[Answer]) -> Result<Vec<String>, AllocError>
+    ensures { IfOk result (λ told. map string_bytes told.items ≡ map answers_text (zip first.now second.now)) }
+{
+    let mut told = Vec::new(heap);
+    for (one, other) in first.iter().zip(second) {
+        let one_told = one.to_string(heap)?;
+        let other_told = other.to_string(heap)?;
+        told.push(both(heap, one_told.as_str(), other_told.as_str())?)?;
+    }
+    Ok(told)
 }
 
 // The lines of a round: each call with its answer, and the watcher.
-pub fn round_text(
-    heap: Global,
-    words: &[String],
-    answers: &[Answer],
-    watcher: &str,
-) -> Result<String, AllocError> {
-    let mut text = String::new(heap);
-    for (call, answer) in words.iter().zip(answers.iter()) {
-        let told = answer_text(heap, *answer)?;
-        add_line(&mut text, call, &told)?;
-    }
-    text.push_str(watcher)?;
+pub fn round_text(heap: Global, calls: &[String], told: Told) -> Result<String, AllocError>
+    ensures { IfOk result (λ s. string_bytes s ≡ round_text (map string_bytes calls.now) told.entry.answers.now told.entry.watched.now) }
+{
+    let tells = answers_told(heap, told.answers)?;
+    let mut text = call_lines(heap, calls, tells.as_slice())?;
+    text.push_str(told.watched)?;
     text.push('\n')?;
     Ok(text)
 }
@@ -144,19 +125,16 @@ pub fn round_text(
 // The same of two rounds.
 pub fn pair_text(
     heap: Global,
-    words: &[String],
-    first: &[Answer],
-    second: &[Answer],
-    watcher: &str,
-) -> Result<String, AllocError> {
-    let mut text = String::new(heap);
-    for (call, (one, other)) in words.iter().zip(first.iter().zip(second.iter())) {
-        let one_told = answer_text(heap, *one)?;
-        let other_told = answer_text(heap, *other)?;
-        let told = both(heap, one_told.as_str(), other_told.as_str())?;
-        add_line(&mut text, call, &told)?;
-    }
-    text.push_str(watcher)?;
+    calls: &[String],
+    first: Told,
+    second: Told,
+) -> Result<String, AllocError>
+    ensures { IfOk result (λ s. string_bytes s ≡ pair_text (map string_bytes calls.now) first.entry.answers.now first.entry.watched.now second.entry.answers.now second.entry.watched.now) }
+{
+    let tells = both_told(heap, first.answers, second.answers)?;
+    let mut text = call_lines(heap, calls, tells.as_slice())?;
+    let watched = both(heap, first.watched, second.watched)?;
+    text.push_str(watched.as_str())?;
     text.push('\n')?;
     Ok(text)
 }

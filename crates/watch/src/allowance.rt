@@ -1,7 +1,9 @@
 // Lets so many places through to the watcher below it.
-ghost use Rattle.std.specs.Prelude.{◌≡◌, ℕ, ◌-◌, ◌&&◌, nat_lt};
+ghost use Rattle.std.specs.Prelude.{◌≡◌, ℕ, ◌-◌, ◌&&◌, nat_lt, option_map};
+ghost use Rattle.watch.specs.Texts.{allowance_text};
 
 use crate::watchers::Watcher;
+use std::fmt;
 
 #[derive(Drop)]
 pub struct Allowance<W> {
@@ -45,5 +47,15 @@ impl<W: Watcher> Watcher for Allowance<W> {
         } else {
             false
         }
+    }
+}
+
+impl<W: fmt::Display> fmt::Display for Allowance<W> {
+    ghost output = { λ s. option_map (allowance_text s.left) (W.Display.output s.below) };
+
+    fn fmt<F: fmt::Write>(&self, f: &mut fmt::Formatter<F>) -> fmt::Result {
+        let left = self.left;
+        write!(f, "allowance {left}, ")?;
+        self.below.fmt(f)
     }
 }

@@ -1,8 +1,11 @@
 // Writes the places, in order, into a list that its caller lends it.
-ghost use Rattle.std.specs.Prelude.{◌≡◌, ℕ, ◌+◌, ◌<◌, List, [], ◌∷◌, ◌++◌, length, take, nat_lt, slice_set};
+ghost use Rattle.std.specs.Prelude.{◌≡◌, ℕ, ◌+◌, ◌<◌, List, [], ◌∷◌, ◌++◌, length, take, Some, nat_lt, slice_set};
+ghost use Rattle.watch.specs.Texts.{roll_text};
 
 use crate::watchers::Watcher;
+use std::fmt;
 
+// The places stand in the caller's list, since nothing here takes memory; `len` says how many of them are written.
 #[derive(Drop)]
 pub struct Roll<'a> {
     pub list: &'a mut [usize],
@@ -24,6 +27,14 @@ impl<'a> Roll<'a> {
         ensures { result ≡ nat_lt self.now.len (length self.now.list.now) }
     {
         self.len < self.list.len()
+    }
+
+    // The places written.
+    fn written(&self) -> &[usize]
+        ensures { result.now ≡ take self.now.len self.now.list.now }
+    {
+        let count = self.len.min(self.list.len());
+        &self.list[..count]
     }
 
     // Writes a place after the others.
@@ -61,5 +72,17 @@ impl<'a> Watcher for Roll<'a> {
         } else {
             false
         }
+    }
+}
+
+impl<'a> fmt::Display for Roll<'a> {
+    ghost output = { λ s. Some (roll_text (take s.len s.list.now)) };
+
+    fn fmt<W: fmt::Write>(&self, f: &mut fmt::Formatter<W>) -> fmt::Result {
+        f.write_str("roll")?;
+        for place in self.written() {
+            write!(f, " {place}")?;
+        }
+        Ok(())
     }
 }

@@ -1,9 +1,11 @@
 // Counts the places, and keeps the latest.
-ghost use Rattle.std.specs.Prelude.{◌≡◌, ℕ, ◌+◌, nat_lt};
+ghost use Rattle.std.specs.Prelude.{◌≡◌, ℕ, ◌+◌, Some, nat_lt};
+ghost use Rattle.watch.specs.Texts.{tally_text};
 
 use crate::watchers::Watcher;
+use std::fmt;
 
-#[derive(Clone, Copy)]
+#[derive(Clone, Copy, Debug, Default, PartialEq)]
 pub struct Tally {
     pub count: u32,
     pub latest: usize,
@@ -15,10 +17,7 @@ impl Tally {
         ensures count { result.count ≡ 0 }
         ensures latest { result.latest ≡ 0 }
     {
-        Tally {
-            count: 0,
-            latest: 0,
-        }
+        Tally::default()
     }
 }
 
@@ -46,5 +45,15 @@ impl Watcher for Tally {
         } else {
             false
         }
+    }
+}
+
+impl fmt::Display for Tally {
+    ghost output = { λ t. Some (tally_text t.count t.latest) };
+
+    fn fmt<W: fmt::Write>(&self, f: &mut fmt::Formatter<W>) -> fmt::Result {
+        let count = self.count;
+        let latest = self.latest;
+        write!(f, "tally {count} latest {latest}")
     }
 }
