@@ -23,6 +23,7 @@ impl Registers {
         self.levels.get(level).copied().unwrap_or_default()
     }
 
+    // Past the last level nothing changes.
     fn set_level(&mut self, level: usize, to: Level)
         ensures { self.new ≡ put_level self.old level to }
     {
