@@ -11,11 +11,12 @@ use value::Value;
 use watch::Watcher;
 
 // The cells and the watcher that a round is lent. The answer places come beside them, since one call alone needs none.
+// The watcher is lent for a time of its own: with one lifetime for all no proof follows two boards made in one function.
 #[derive(Drop)]
-pub struct Board<'a, V, W> {
+pub struct Board<'a, 'w, V, W> {
     pub setter: &'a mut [V],
     pub working: &'a mut [V],
-    pub watcher: &'a mut W,
+    pub watcher: &'w mut W,
 }
 
 // What one call comes to: the phase and the call together decide. The parts of a board come one by one, since most
