@@ -47,6 +47,7 @@ pub enum Answer {
 }
 
 impl Score {
+    // Its number among the three that an answer tells to callers that take numbers alone.
     pub fn number(&self) -> usize
         ensures { result ≡ score_number self.now }
     {
@@ -59,6 +60,7 @@ impl Score {
 }
 
 impl Ending {
+    // Its number among those three.
     pub fn number(&self) -> usize
         ensures { result ≡ ending_number self.now }
     {
