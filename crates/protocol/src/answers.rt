@@ -62,6 +62,7 @@ impl From<Verdict> for Score {
 }
 
 impl Score {
+    // Its number among the three that an answer tells to callers that take numbers alone.
     pub fn number(&self) -> usize
         ensures { result ≡ score_number self.now }
     {
@@ -74,6 +75,7 @@ impl Score {
 }
 
 impl Ending {
+    // Its number among those three.
     pub fn number(&self) -> usize
         ensures { result ≡ ending_number self.now }
     {
