@@ -1,11 +1,11 @@
 -- What is known of a block that begins with a line, where no more is known of its code than that there is one.
-use Rattle.std.proofs.Common.{◌≡◌, ℕ, ◌+◌, ◌≤◌, List, sym, subst, ap, ◌∙◌}
+use Rattle.std.proofs.Common.{◌≡◌, ℕ, ◌+◌, ◌≤◌, List, subst, arith}
 use Rattle.std.proofs.Math.Logic.{∥∥₁_elim, ∥∥₁_prop}
 use Rattle.std.specs.Coded.{le_prop}
 use Rattle.sheet.specs.Code.{Code}
-use Rattle.sheet.specs.Spans.{line_at, Spans, IsCode, end_of}
+use Rattle.sheet.specs.Spans.{line_at, Spans, IsCode}
 use Rattle.sheet.specs.declared.lines.Line.{Line}
-use Rattle.sheet.specs.declared.lines.Line.TheVariants.{Work, Literal, If, Loop}
+use Rattle.sheet.specs.declared.lines.Line.TheVariants.{Work, Literal, If, Else, Loop}
 use Rattle.sheet.proofs.Heads.{AtIf, at_work, at_literal, at_if, at_loop}
 
 module _ (xs : List Line) (i j : ℕ) (more : i ≡ j → ⊥) (some : ∥ IsCode xs i j ∥₁) where
@@ -27,6 +27,13 @@ module _ (xs : List Line) (i j : ℕ) (more : i ≡ j → ⊥) (some : ∥ IsCod
         rest = ∥∥₁_elim some ∥∥₁_prop (λ k. let v = at_literal xs i j more t n w k.0 k.1 in ∣ (v.rest, v.spans) ∣₁);
       }
 
+  -- the line that an if names is an else of the block
+  pub else_inside : (x e : ℕ) → line_at xs i ≡ If x e → e + 1 ≤ j
+  else_inside x e w = ∥∥₁_elim some le_prop (λ k. let v = at_if xs i j more x e w k.0 k.1 in omega (arith, v.le_second, v.le_rest))
+
+  pub no_other : (x e : ℕ) → line_at xs i ≡ If x e → ((z : ℕ) → line_at xs e ≡ Else z → ⊥) → ⊥
+  no_other x e w n = ∥∥₁_elim some (λ p q. absurd p) (λ k. let v = at_if xs i j more x e w k.0 k.1 in n v.z v.mid)
+
   -- z is the line of the end
   pub record InIf (e z : ℕ) : Type 0 where
     pub le_first : i + 1 ≤ e
@@ -36,10 +43,10 @@ module _ (xs : List Line) (i j : ℕ) (more : i ≡ j → ⊥) (some : ∥ IsCod
     pub second : ∥ IsCode xs (e + 1) z ∥₁
     pub rest : ∥ IsCode xs (z + 1) j ∥₁
 
-  module _ (x e z : ℕ) (w : line_at xs i ≡ If x e) (h : z ≡ end_of (line_at xs e)) where
+  module _ (x e z : ℕ) (w : line_at xs i ≡ If x e) (h : line_at xs e ≡ Else z) where
     module _ (c : Code) (v : AtIf xs i j x e c) where
       z_is : v.z ≡ z
-      z_is = sym (h ∙ ap end_of v.mid)
+      z_is = let m = v.mid in cc
 
     pub in_if : InIf e z
     in_if =

@@ -20,20 +20,3 @@ Spans xs i j (repeat c n p r) =
 -- the lines from i up to j are some code's
 abbrev pub IsCode : List Line → ℕ → ℕ → Type 0
 IsCode xs i j = (c : Code) × Spans xs i j c
-
--- the place after the construct that the line i opens
-abbrev pub end_of : Line → ℕ
-end_of (Work t o a b) = 0
-end_of (Literal t n) = 0
-end_of (If c e) = 0
-end_of (Else z) = z
-end_of (End i) = 0
-end_of (Loop c n z) = 0
-
-abbrev pub past_of : List Line → Line → ℕ
-past_of xs (Work t o a b) = 0
-past_of xs (Literal t n) = 0
-past_of xs (If c e) = end_of (line_at xs e) + 1
-past_of xs (Else z) = 0
-past_of xs (End i) = 0
-past_of xs (Loop c n z) = z + 1

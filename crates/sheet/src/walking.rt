@@ -2,20 +2,9 @@
 ghost use Rattle.std.specs.Prelude.{◌≡◌, ◌-◌};
 ghost use Rattle.std.specs.Iterator.{at_most};
 ghost use Rattle.sheet.specs.Blocks.{Gives};
-ghost use Rattle.sheet.specs.Spans.{end_of};
 
 use crate::block::{Block, Construct};
 use crate::lines::Line;
-
-// The line of the `end` that an `else` names.
-fn end_of(line: Line) -> usize
-    ensures { result ≡ end_of line }
-{
-    match line {
-        Line::Else { partner } => partner,
-        _ => 0,
-    }
-}
 
 // A block gives its constructs in order, and is then what is left of it.
 impl<'a> Iterator for Block<'a> {
@@ -40,7 +29,9 @@ impl<'a> Iterator for Block<'a> {
                 Some(Construct::Literal { target, number })
             }
             Line::If { cell, partner } => {
-                let end = end_of(lines[partner]);
+                let Line::Else { partner: end } = lines[partner] else {
+                    unreachable!()
+                };
                 let first = Block {
                     lines,
                     from: from + 1,

@@ -1,8 +1,8 @@
-use Rattle.std.proofs.Common.{◌≡◌, ◌+◌, ◌<◌, length, refl, sym, ap, subst, ◌∙◌, inl, inr, arith, rules}
+use Rattle.std.proofs.Common.{◌≡◌, ◌+◌, ◌<◌, length, refl, subst, inl, inr, arith, rules}
 use Rattle.std.proofs.Math.Logic.{∥∥₁_elim}
-use Rattle.sheet.specs.Spans.{Spans, end_of}
+use Rattle.sheet.specs.Spans.{Spans}
 use Rattle.sheet.proofs.Heads.{spans_none, at_work, at_literal, at_if, at_loop, not_else, not_end}
-use Rattle.sheet.proofs.Merely.{in_work, in_literal, in_if, in_loop}
+use Rattle.sheet.proofs.Merely.{else_inside, no_other, in_work, in_literal, in_if, in_loop}
 use Rattle.sheet.proofs.walking.BlockIterator.next.Goals as goal
 
 pub returns-then-from-to-clause-steps : goal.returns-then-from-to-clause-steps
@@ -23,46 +23,48 @@ invariant_of-self-in-Literal c =
 pub offset_bounds-lines-partner : goal.offset_bounds-lines-partner
 offset_bounds-lines-partner c =
     let b = c.args.self.now in
-    let v = in_if b.lines.now b.from b.to c.if-from-to.false b.reads _ _ _ c.in-If.is refl in
-    let l : c.in-If.partner < length b.lines.now = omega (arith, v.le_second, v.le_rest, b.inside) in
+    let e = else_inside b.lines.now b.from b.to c.if-from-to.false b.reads _ _ c.in-If.is in
+    let l : c.in-If.partner < length b.lines.now = omega (arith, e, b.inside) in
     search rules
 
-pub bounds-lines-partner : goal.bounds-lines-partner
-bounds-lines-partner c =
+pub bounds-in-If : goal.bounds-in-If
+bounds-in-If c =
     let b = c.args.self.now in
-    let v = in_if b.lines.now b.from b.to c.if-from-to.false b.reads _ _ _ c.in-If.is refl in
-    omega (arith, v.le_second, v.le_rest, b.inside)
+    omega (arith, else_inside b.lines.now b.from b.to c.if-from-to.false b.reads _ _ c.in-If.is, b.inside)
+
+pub unreachable-requires : goal.unreachable-requires
+unreachable-requires c = let b = c.args.self.now in no_other b.lines.now b.from b.to c.if-from-to.false b.reads _ _ c.in-If.is c.in_default.not-Else
 
 pub overflow_add-second : goal.overflow_add-second
 overflow_add-second c =
     let b = c.args.self.now in
-    let v = in_if b.lines.now b.from b.to c.if-from-to.false b.reads _ _ _ c.in-If.is c.end_of-end.ensures in
+    let v = in_if b.lines.now b.from b.to c.if-from-to.false b.reads _ _ _ c.in-If.is c.in-Else-lines.is in
     let l : c.in-If.partner < length b.lines.now = omega (arith, v.le_second, v.le_rest, b.inside) in
     search rules
 
 pub overflow_add-self-in-If : goal.overflow_add-self-in-If
 overflow_add-self-in-If c =
     let b = c.args.self.now in
-    let v = in_if b.lines.now b.from b.to c.if-from-to.false b.reads _ _ _ c.in-If.is c.end_of-end.ensures in
-    let l : c.end_of-end.result < length b.lines.now = omega (arith, v.le_rest, b.inside) in
+    let v = in_if b.lines.now b.from b.to c.if-from-to.false b.reads _ _ _ c.in-If.is c.in-Else-lines.is in
+    let l : c.in-Else-lines.end < length b.lines.now = omega (arith, v.le_rest, b.inside) in
     search rules
 
 pub invariant_of-self-in-If : goal.invariant_of-self-in-If
 invariant_of-self-in-If c =
     let b = c.args.self.now in
-    let v = in_if b.lines.now b.from b.to c.if-from-to.false b.reads _ _ _ c.in-If.is c.end_of-end.ensures in
+    let v = in_if b.lines.now b.from b.to c.if-from-to.false b.reads _ _ _ c.in-If.is c.in-Else-lines.is in
     record { ordered = v.le_rest; inside = b.inside; reads = v.rest }
 
 pub invariant_of-first : goal.invariant_of-first
 invariant_of-first c =
     let b = c.args.self.now in
-    let v = in_if b.lines.now b.from b.to c.if-from-to.false b.reads _ _ _ c.in-If.is c.end_of-end.ensures in
+    let v = in_if b.lines.now b.from b.to c.if-from-to.false b.reads _ _ _ c.in-If.is c.in-Else-lines.is in
     record { ordered = v.le_first; inside = omega (arith, v.le_second, v.le_rest, b.inside); reads = v.first }
 
 pub invariant_of-second : goal.invariant_of-second
 invariant_of-second c =
     let b = c.args.self.now in
-    let v = in_if b.lines.now b.from b.to c.if-from-to.false b.reads _ _ _ c.in-If.is c.end_of-end.ensures in
+    let v = in_if b.lines.now b.from b.to c.if-from-to.false b.reads _ _ _ c.in-If.is c.in-Else-lines.is in
     record { ordered = v.le_second; inside = omega (arith, v.le_rest, b.inside); reads = v.second }
 
 pub overflow_add-self-in-Loop : goal.overflow_add-self-in-Loop
@@ -84,8 +86,8 @@ invariant_of-body c =
     let v = in_loop b.lines.now b.from b.to c.if-from-to.false b.reads _ _ _ c.in-Loop.is in
     record { ordered = v.le_first; inside = omega (arith, v.le_rest, b.inside); reads = v.first }
 
-pub unreachable-requires : goal.unreachable-requires
-unreachable-requires c =
+pub unreachable-requires-in-Else : goal.unreachable-requires-in-Else
+unreachable-requires-in-Else c =
     let b = c.args.self.now in
     ∥∥₁_elim b.reads (λ x y. absurd x)
     (λ k. elim c.in-Else.is [
@@ -113,8 +115,8 @@ returns-in-Literal-clause-steps c =
       begins = λ k h. let v = at_literal b.lines.now b.from b.to c.if-from-to.false _ _ c.in-Literal.is k h in (v.rest, v.is, v.spans);
     }
 
-pub returns-in-If-clause-steps : goal.returns-in-If-clause-steps
-returns-in-If-clause-steps c =
+pub returns-in-Else-lines-clause-steps : goal.returns-in-Else-lines-clause-steps
+returns-in-Else-lines-clause-steps c =
     let b = c.args.self.now in
     record {
       lines = refl;
@@ -122,7 +124,8 @@ returns-in-If-clause-steps c =
       lies = (refl, refl, refl, refl, refl);
       begins = λ k h.
           let v = at_if b.lines.now b.from b.to c.if-from-to.false _ _ c.in-If.is k h in
-          let e : v.z ≡ c.end_of-end.result = sym (c.end_of-end.ensures ∙ ap end_of v.mid) in (
+          let m = v.mid in
+          let e : v.z ≡ c.in-Else-lines.end = cc in (
             v.rest,
             (v.first, v.second, v.spans_first, subst (λ y. Spans b.lines.now (c.in-If.partner + 1) y v.second) e v.spans_second, v.is),
             subst (λ y. Spans b.lines.now (y + 1) b.to v.rest) e v.spans_rest,
