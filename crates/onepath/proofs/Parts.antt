@@ -1,6 +1,6 @@
 -- A block as its first construct, and the rest.
 use Rattle.std.proofs.Common.{◌≡◌, ℕ, ◌+◌, Bool, List, sym, refl, ap, ◌∙◌, subst, arith}
-use Rattle.sheet.specs.Blocks.{Lies, lines_in, Begins}
+use Rattle.sheet.specs.Blocks.{Lies, lines_in, Leads}
 use Rattle.sheet.specs.Code.{Code, stop, work, literal, choose, repeat, size_of}
 use Rattle.sheet.specs.declared.block.Construct.{Construct}
 use Rattle.sheet.specs.declared.block.Construct.TheVariants.{Work, Literal, If, Loop}
@@ -20,10 +20,10 @@ follow (repeat x n p r) s = repeat x n p (follow r s)
 -- the code c, cut after the construct
 pub record Cut (x : Construct) (c r : Code) : Type 0 where
   pub one : Code
-  pub begins : Begins x one stop
+  pub begins : Leads x one stop
   pub is : c ≡ follow one r
 
-pub cut : (x : Construct) (c r : Code) → Begins x c r → Cut x c r
+pub cut : (x : Construct) (c r : Code) → Leads x c r → Cut x c r
 cut (Work t o a b) c r h = record { one = work t o a b stop; begins = refl; is = h }
 cut (Literal t n) c r h = record { one = literal t n stop; begins = refl; is = h }
 cut (If x p q) c r h = record { one = choose x h.0 h.1 stop; begins = (h.0, h.1, h.2, h.3, refl); is = h.4 }
@@ -37,7 +37,7 @@ lies_lines xs i j (If x p q) h = omega (arith, h.1, h.3, h.4, p.ordered, q.order
 lies_lines xs i j (Loop l x n p) h = omega (arith, h.2, h.3, p.ordered)
 
 -- ... which are as many as its code has
-pub lies_size : (xs : List Line) (i j : ℕ) (x : Construct) → Lies xs i x j → (c : Code) → Begins x c stop → j ≡ i + size_of c
+pub lies_size : (xs : List Line) (i j : ℕ) (x : Construct) → Lies xs i x j → (c : Code) → Leads x c stop → j ≡ i + size_of c
 lies_size xs i j (Work t o a b) h c e = h ∙ ap (λ y. i + size_of y) (sym e)
 lies_size xs i j (Literal t n) h c e = h ∙ ap (λ y. i + size_of y) (sym e)
 lies_size xs i j (If x p q) h c e =

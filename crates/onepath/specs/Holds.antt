@@ -1,6 +1,6 @@
 -- The step table read by places: the form in which the functions that fill it speak of it.
 use Rattle.std.specs.Prelude.{◌≡◌, ℕ, ◌+◌, ◌-◌, ◌*◌, ◌<◌, ◌≤◌, Bool, true, false, List, length, slice_index_or}
-use Rattle.sheet.specs.Blocks.{HasCode, lines_in, Lies, Begins}
+use Rattle.sheet.specs.Blocks.{HasCode, lines_in, Lies, Leads}
 use Rattle.sheet.specs.Code.{Code, stop, work, literal, choose, repeat, size_of}
 use Rattle.sheet.specs.declared.block.Block.{Block}
 use Rattle.sheet.specs.declared.block.Construct.{Construct}
@@ -51,4 +51,4 @@ pub record Converted (covered : ℕ → Bool) (b : Block) (k d : ℕ) (ts us : L
 -- the construct was converted, whatever its first line i is
 pub record ConvertedOne (covered : ℕ → Bool) (x : Construct) (k d : ℕ) (ts us : List Step) (at r : ℕ) : Type 0 where
   pub written : Written (lines_in x) ts us at r
-  pub holds : (xs : List Line) (i j : ℕ) → Lies xs i x j → (c : Code) → Begins x c stop → Holds covered us k d i at r c
+  pub holds : (xs : List Line) (i j : ℕ) → Lies xs i x j → (c : Code) → Leads x c stop → Holds covered us k d i at r c

@@ -98,7 +98,7 @@ impl From<AllocError> for ScriptFault {
     }
 }
 
-// Why a line is not taken.
+// Why a line is not taken. What reads a line does not know its number, so `ScriptFault` is another enum.
 #[derive(Clone, Copy)]
 pub enum LineFault {
     Memory,

@@ -27,18 +27,18 @@ lines_in (If x p q) = (p.to - p.from) + (q.to - q.from) + 3
 lines_in (Loop l x n p) = (p.to - p.from) + 2
 
 -- the code c is the construct and then the code r
-abbrev pub Begins : Construct → Code → Code → Type 0
-Begins (Work t o a b) c r = c ≡ work t o a b r
-Begins (Literal t n) c r = c ≡ literal t n r
-Begins (If x p q) c r = (f : Code) × (s : Code) × HasCode p f × HasCode q s × (c ≡ choose x f s r)
-Begins (Loop l x n p) c r = (f : Code) × HasCode p f × (c ≡ repeat x n f r)
+abbrev pub Leads : Construct → Code → Code → Type 0
+Leads (Work t o a b) c r = c ≡ work t o a b r
+Leads (Literal t n) c r = c ≡ literal t n r
+Leads (If x p q) c r = (f : Code) × (s : Code) × HasCode p f × HasCode q s × (c ≡ choose x f s r)
+Leads (Loop l x n p) c r = (f : Code) × HasCode p f × (c ≡ repeat x n f r)
 
 -- The block begins with the construct, and `rest` is what comes after it.
 pub record Heads (b : Block) (x : Construct) (rest : Block) : Type 0 where
   pub lines : rest.lines.now ≡ b.lines.now
   pub to : rest.to ≡ b.to
   pub lies : Lies b.lines.now b.from x rest.from
-  pub begins : (c : Code) → HasCode b c → (r : Code) × Begins x c r × HasCode rest r
+  pub begins : (c : Code) → HasCode b c → (r : Code) × Leads x c r × HasCode rest r
 
 -- What a block gives when it is asked for its next construct, and what is left of it then.
 abbrev pub Gives : Block → Option Construct → Block → Type 0
