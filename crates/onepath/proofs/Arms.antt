@@ -5,14 +5,14 @@ use Rattle.sheet.specs.Blocks.{HasCode, Heads, lines_in}
 use Rattle.sheet.specs.Code.{Code, stop, repeat, size_of}
 use Rattle.sheet.specs.declared.block.Block.{Block}
 use Rattle.sheet.specs.declared.block.Construct.{Construct}
-use Rattle.sheet.specs.declared.block.Construct.TheVariants.{Work, Literal, If, Loop}
+use Rattle.sheet.specs.declared.block.Construct.TheVariants.{If, Loop}
 use Rattle.sheet.proofs.Heads.{spans_size}
 use Rattle.onepath.specs.Cover.{loop_covered, level_in, loops_in}
 use Rattle.onepath.specs.Own.{if_head, if_middle, loop_head, loop_test, loop_back}
 use Rattle.onepath.specs.Put.{form_of, put_if, past_end, put_loop}
-use Rattle.onepath.specs.Holds.{step_at, Holds, LoopEnd, Written, Converted, ConvertedOne}
+use Rattle.onepath.specs.Holds.{step_at, Holds, LoopEnd, Converted, ConvertedOne}
 use Rattle.onepath.specs.declared.steps.Step.{Step}
-use Rattle.onepath.specs.declared.steps.Step.TheVariants.{Work as WorkStep, Literal as LiteralStep, Close}
+use Rattle.onepath.specs.declared.steps.Step.TheVariants.{Close}
 use Rattle.onepath.proofs.Kept.{Kept, holds_kept}
 use Rattle.onepath.proofs.Parts.{cut, lies_lines, lies_size, holds_follow}
 
@@ -57,21 +57,6 @@ module _ (cov : ℕ → Bool) (k d : ℕ) where
             let h₂ = subst (λ y. Holds cov vs k d y m r v.0) size (d₂.holds v.0 v.2) in
             subst (λ y. Holds cov vs k d b.from at r y) (sym q.is) (holds_follow cov vs k d b.from at m r q.one v.0 h₁ h₂);
       }
-
-  written_one : (ts : List Step) (at : ℕ) (s : Step) → Written 1 ts (set ts at s) at (at + 1)
-  written_one ts at s =
-      record { below = λ x w. other ts at s x (omega arith); above = λ x w. other ts at s x (omega arith); long = length-set ts at s; least = omega arith; most = omega arith }
-
-  -- the step of a work or a literal line
-  pub whole_work : (t o a b : ℕ) (ts : List Step) (at : ℕ) → at < length ts → ConvertedOne cov (Work t o a b) k d ts (set ts at (WorkStep k t o a b)) at (at + 1)
-  whole_work t o a b ts at l =
-      let s = WorkStep k t o a b in
-      record { written = written_one ts at s; holds = λ xs i j w c e. subst (λ y. Holds cov (set ts at s) k d i at (at + 1) y) (sym e) (wrote ts at s l, refl) }
-
-  pub whole_literal : (t n : ℕ) (ts : List Step) (at : ℕ) → at < length ts → ConvertedOne cov (Literal t n) k d ts (set ts at (LiteralStep k t n)) at (at + 1)
-  whole_literal t n ts at l =
-      let s = LiteralStep k t n in
-      record { written = written_one ts at s; holds = λ xs i j w c e. subst (λ y. Holds cov (set ts at s) k d i at (at + 1) y) (sym e) (wrote ts at s l, refl) }
 
 -- a block's conversion at the level and the number of loops that the rules give
 within : (cov : ℕ → Bool) (b : Block) (k k' d d' : ℕ) (ts us : List Step) (at r : ℕ) → k ≡ k' → d ≡ d' →

@@ -42,9 +42,6 @@ module _ {M : Type 0} (v : Values) (ts : List Step) (w : Watching M) where
   advanced_over zero s m h = rw h refl
   advanced_over (suc k) s m h = rw h refl
 
-  pub advanced_paused : (k : ℕ) (s : State) (m : M) → k ≡ 0 → is_over (length ts) s ≡ false → advanced v ts w k s m ≡ halted Paused s m
-  advanced_paused k s m e h = rw (e, h) refl
-
   pub advanced_stopped : (k j : ℕ) (s : State) (m : M) → k ≡ suc j → is_over (length ts) s ≡ false → w.accepts m s.track.place ≡ false → advanced v ts w k s m ≡ halted Stopped s m
   advanced_stopped k j s m e h a = rw (e, h, a) refl
 

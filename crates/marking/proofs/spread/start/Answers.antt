@@ -1,9 +1,7 @@
-use Rattle.std.proofs.Common.{◌≡◌, ℕ, length, get_or, sym, subst, inl, inr, arith, below_none, below_more}
-use Rattle.std.proofs.lemmas.List.{get_or_past}
-use Rattle.std.proofs.lemmas.Bool.{cases_lt}
+use Rattle.std.proofs.Common.{get_or, sym, subst, arith, below_more}
 use Rattle.marking.specs.Rules.{AtLeast}
 use Rattle.marking.specs.Spread.{marking}
-use Rattle.marking.proofs.Order.{Laws, above_none, above_trans}
+use Rattle.marking.proofs.Order.{Laws, above_trans}
 use Rattle.marking.proofs.Tables.{raised_has}
 use Rattle.marking.proofs.Steps.{Raised, raise_moved, raise_below}
 use Rattle.marking.proofs.Starts.{rising_below, owns_at, owns_all}
@@ -14,14 +12,6 @@ laws : (g : given.Over) → Laws g.M.Mark.joined g.M.Mark.unmarked g.M.Mark.rank
 laws g =
     let met = g.met.M.Mark in
     record { assoc = met.assoc; comm = met.comm; idem = met.idem; neutral = met.neutral; rises = met.rises; tops = met.tops }
-
-pub loop-cell-init : goal.loop-cell-init
-loop-cell-init g c =
-    let none = g.M.Mark.unmarked in
-    let ts = c.clear.new.marks in
-    let empty : (x : ℕ) → marking none ts x ≡ none =
-    λ x. elim (cases_lt x (length ts)) [ inl h ↦ c.clear.ensures x h | inr h ↦ get_or_past ts x none h ] in
-    (below_none _, λ m o x. subst (AtLeast g.M.Mark.joined (m x)) (sym (empty x)) (above_none (laws g) (m x)))
 
 pub raise-requires : goal.raise-requires
 raise-requires g c =

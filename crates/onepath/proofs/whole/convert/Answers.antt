@@ -1,5 +1,5 @@
 use Rattle.std.proofs.Common.{◌≡◌, ◌-◌, ◌++◌, length, take, drop, subst, arith}
-use Rattle.sheet.proofs.Verdicts.{laid_lines, filled_spans, filled_long}
+use Rattle.sheet.proofs.Verdicts.{filled_spans, filled_long}
 use Rattle.onepath.specs.Cover.{covered_in}
 use Rattle.onepath.specs.Listed.{steps_of}
 use Rattle.onepath.proofs.whole.convert.Goals as goal
@@ -12,20 +12,8 @@ invariant_of-whole c =
     let long = filled_long p c.args.lines.now c.least_marking.new.lines w.3 in
     record { ordered = omega arith; inside = omega arith; reads = ∣ (p.code, filled_spans p c.args.lines.now c.least_marking.new.lines c.in_ok-marked.marked.sheet.lines w.3 lines) ∣₁ }
 
-pub convert_lines-count-requires : goal.convert_lines-count-requires
-convert_lines-count-requires c =
-    let w = c.in_ok-marked.ensures.marks in
-    let f = c.in_ok-check_tables.ensures.fits in
-    let p = w.0 in
-    let lines = w.2.lines in
-    let same = laid_lines c.args.bytes.now p w.1 in
-    let same' = laid_lines c.args.bytes.now f.program f.laid in
-    let room = f.steps in
-    let short = w.1.lawful.short in
-    record { few = omega arith; room = omega arith }
-
-pub returns : goal.returns
-returns c =
+pub returns-clause-converts : goal.returns-clause-converts
+returns-clause-converts c =
     let w = c.in_ok-marked.ensures.marks in
     let p = w.0 in
     let s = c.in_ok-marked.marked.sheet in
@@ -35,19 +23,15 @@ returns c =
     let n = c.convert_lines-count.result in
     let spans = filled_spans p c.args.lines.now c.least_marking.new.lines s.lines w.3 lines in
     let v = c.convert_lines-count.ensures in
-    let same : s.cells - 0 ≡ p.cells = omega arith in
-    record {
-      first = c.in_ok-check_tables.ensures.first;
-      converts = (
-        p,
-        w.1,
-        w.2,
-        w.3,
-        record { least = w.4.least; rest = w.4.rest; long = w.4.long },
-        record {
-          steps = subst (λ k. c.convert_lines-count.new.steps ≡ steps_of (covered_in (take k marks)) 0 0 0 0 p.code ++ drop n c.args.steps.now) same (v.listed p.code spans);
-          number = subst (λ k. n ≡ length (steps_of (covered_in (take k marks)) 0 0 0 0 p.code)) same (v.number p.code spans);
-          most = let m = v.most in omega arith;
-        },
-      );
-    }
+    let same : s.cells - 0 ≡ p.cells = omega arith in (
+      p,
+      w.1,
+      w.2,
+      w.3,
+      record { least = w.4.least; rest = w.4.rest; long = w.4.long },
+      record {
+        steps = subst (λ k. c.convert_lines-count.new.steps ≡ steps_of (covered_in (take k marks)) 0 0 0 0 p.code ++ drop n c.args.steps.now) same (v.listed p.code spans);
+        number = subst (λ k. n ≡ length (steps_of (covered_in (take k marks)) 0 0 0 0 p.code)) same (v.number p.code spans);
+        most = let m = v.most in omega arith;
+      },
+    )

@@ -1,11 +1,9 @@
-use Rattle.std.proofs.Common.{◌≡◌, ◌+◌, ◌-◌, ◌*◌, length, Some, sym, ap, ◌∙◌, arith}
-use Rattle.std.proofs.lemmas.Bool.{eqb-false}
+use Rattle.std.proofs.Common.{◌≡◌, ◌+◌, ◌-◌, ◌*◌, sym, ap, ◌∙◌, arith}
 use Rattle.std.proofs.lemmas.Result.{err_from_is_err_and}
 use Rattle.sheet.specs.Checks.{lines_fault}
 use Rattle.sheet.specs.Nests.{opens}
-use Rattle.sheet.specs.declared.faults.ReadFault.TheVariants.{Nesting}
 use Rattle.sheet.proofs.Chunks.{chunk_stands}
-use Rattle.sheet.proofs.Stepping.{line_said, line_bad, ends_open}
+use Rattle.sheet.proofs.Stepping.{line_said, line_bad}
 use Rattle.sheet.proofs.checking.check_lines.Goals as goal
 
 pub returns-in_err-nest : goal.returns-in_err-nest
@@ -24,10 +22,3 @@ loop-i-preserved c =
     ap (λ y. lines_fault c.args.h.cells c.args.bytes.now y (n - (i + 1)) (opens c.in_ok-nest.nest)) (let e : 14 + c.args.h.marked + 8 * (i + 1) ≡ 14 + c.args.h.marked + 8 * i + 8 = omega arith in e)
     ∙ sym (line_said c.args.h.cells c.args.bytes.now (14 + c.args.h.marked + 8 * i) (opens c.loop-i.nest) (n - i) (n - (i + 1)) (omega arith) _
     (c.in_ok-nest.ensures c.args.bytes.now (chunk_stands c.args.bytes.now (14 + c.args.h.marked) _ c.line_bytes-lines.result.now c.line_bytes-lines.ensures.pieces i c.loop-i-test.true))) ∙ c.loop-i.invariant
-
-pub returns-else-is_empty : goal.returns-else-is_empty
-returns-else-is_empty c =
-    let i = c.loop-i.i in
-    let some = eqb-false (length (opens c.loop-i.nest)) 0 (sym c.if-is_empty.ensures) in
-    ap (λ y. Some (Nesting y)) (let e : length c.args.bytes.now ≡ 14 + c.args.h.marked + 8 * i = omega arith in e)
-    ∙ sym (ends_open c.args.h.cells c.args.bytes.now (14 + c.args.h.marked + 8 * i) (opens c.loop-i.nest) (c.args.h.lines - i) (omega arith) (omega arith)) ∙ c.loop-i.invariant

@@ -35,13 +35,6 @@ bounds-in-If c =
 pub unreachable-requires : goal.unreachable-requires
 unreachable-requires c = let b = c.args.self.now in no_other b.lines.now b.from b.to c.if-from-to.false b.reads _ _ c.in-If.is c.in_default.not-Else
 
-pub overflow_add-second : goal.overflow_add-second
-overflow_add-second c =
-    let b = c.args.self.now in
-    let v = in_if b.lines.now b.from b.to c.if-from-to.false b.reads _ _ _ c.in-If.is c.in-Else-lines.is in
-    let l : c.in-If.partner < length b.lines.now = omega (arith, v.le_second, v.le_rest, b.inside) in
-    search rules
-
 pub overflow_add-self-in-If : goal.overflow_add-self-in-If
 overflow_add-self-in-If c =
     let b = c.args.self.now in
