@@ -14,7 +14,8 @@ fn number(line: [u8; 8]) -> u32
     u32::from_le_bytes([line[4], line[5], line[6], line[7]])
 }
 
-// Fills in the block that begins at line `from`; answers the line after it.
+// Fills in the block that begins at line `from`; answers the line after it. The table is lent on from call to call: a
+// struct that held it would owe at each that it is still the same table.
 #[cycle(fill_block_fill_if_fill_loop)]
 pub(crate) fn fill_block(lines: &[[u8; 8]], from: usize, table: &mut [Line]) -> usize
     requires code { (c : Code) × Begins lines.now from c }

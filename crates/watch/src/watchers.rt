@@ -13,7 +13,8 @@ pub trait Watcher {
     // What the meaning becomes when it accepts.
     ghost becomes: { Meaning → ℕ → Meaning };
 
-    // What a watcher holds on loan, which an offer leaves in its hands.
+    // What a watcher holds on loan, which an offer leaves in its hands. Each call that lends a watcher on says so too: no
+    // type says what holds of a value at two moments.
     ghost Loan: { Type 0 };
 
     ghost loan: { Self → Loan };
