@@ -21,7 +21,7 @@ put_loop (Covered k) x n l i m ts =
     slice_set (slice_set (slice_set (slice_set ts i (Setout k)) (i + 1) (Narrow k x)) m (Again k n (i + 1))) (m + 1) (Close k x l)
 put_loop (Open d) x n l i m ts = slice_set (slice_set (slice_set ts i (Enter d)) (i + 1) (Test d x n (m + 1) l)) m (Jump (i + 1))
 
--- the place after a loop, the first step of whose end is before m: a covered loop has one step more
+-- the place after a loop whose step back stands just before m: a covered loop has one step more
 abbrev pub past_end : Form → ℕ → ℕ
 past_end (Covered k) m = m + 1
 past_end (Open d) m = m

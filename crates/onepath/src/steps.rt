@@ -76,7 +76,7 @@ pub enum Step {
 }
 
 impl Step {
-    // The kind of the step in one word.
+    // The kind of the step in one word. It cannot fail, as printing can, so it stands beside `Display`.
     pub fn name(&self) -> &'static str
         ensures { result.now ≡ name_of self.now }
     {

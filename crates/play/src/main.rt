@@ -1,13 +1,12 @@
 // Plays the text on standard input and prints what each call is answered.
 #![tactic(auto)]
 
+use report::read_all;
 use script::respond;
-use std::io::Read;
 
 fn play(rt: &HostRuntime) -> anyhow::Result<()> {
     let heap = rt.alloc();
-    let mut text = Vec::new(heap);
-    rt.stdin().read_to_end(&mut text)?;
+    let text = read_all(heap, rt.stdin())?;
     rt.print(respond(heap, text.as_slice())?)?;
     Ok(())
 }

@@ -3,7 +3,7 @@
 #![tactic(auto)]
 
 use script::respond;
-use std::io::Read;
+use std::io;
 
 fn print_response(rt: &HostRuntime, text: &str) -> anyhow::Result<()> {
     match respond(rt.alloc(), text.as_bytes()) {
@@ -15,8 +15,7 @@ fn print_response(rt: &HostRuntime, text: &str) -> anyhow::Result<()> {
 
 fn main(rt: HostRuntime) -> anyhow::Result<()> {
     let heap = rt.alloc();
-    let mut table = String::new(heap);
-    rt.stdin().read_to_string(&mut table)?;
+    let table = io::read_to_string(heap, rt.stdin())?;
     let mut text: Option<String> = None;
     for line in table.lines() {
         if line.starts_with("----") {

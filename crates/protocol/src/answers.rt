@@ -87,7 +87,7 @@ impl Ending {
         }
     }
 
-    // The broken loop's line, else 0.
+    // The broken loop's line, else 0 and no option: callers may take numbers alone.
     pub fn line(&self) -> usize
         ensures { result ≡ ending_line self.now }
     {
@@ -112,7 +112,7 @@ impl Advanced {
 }
 
 impl Answer {
-    // The refusal's number; 0 if the call was accepted.
+    // The refusal's number; 0 and no option if the call was accepted: callers may take numbers alone.
     pub fn refusal(&self) -> u32
         ensures { result ≡ refusal_of self.now }
     {

@@ -16,8 +16,8 @@ pub use origins::origin_report;
 use sheet::{Fault, Line, Refused};
 use std::alloc::{AllocError, Global};
 
-// The line for a refusal.
-pub(crate) fn refusal_line<F: Fault>(heap: Global, fault: F) -> Result<String, AllocError>
+// The line that is printed of what is refused.
+pub fn refusal_line<F: Fault>(heap: Global, fault: F) -> Result<String, AllocError>
     ensures { IfOk result (λ s. string_bytes s ≡ refusal_line (F.numbered fault) (F.placed fault)) }
 {
     let refused = Refused(fault);

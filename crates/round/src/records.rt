@@ -23,7 +23,7 @@ pub struct Record {
     pub(crate) track: Track,
 }
 
-// What several calls check first, each with its refusal.
+// What several calls check first. Each check names its own refusal, so that no call can pass another's.
 impl Record {
     pub(crate) fn check_laying(&self) -> Result<(), Refusal>
         ensures { MatchResult result (λ _. self.now.phase ≡ Laying) (λ e. (self.now.phase ≡ InPlay) × (e ≡ WrongPhase)) }

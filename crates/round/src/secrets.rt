@@ -3,6 +3,7 @@ ghost use Rattle.std.specs.Prelude.{◌≡◌, ◌≤◌, true, false, length, t
 ghost use Rattle.round.specs.Tables.{Marks, Pads};
 
 use crate::slices::front;
+use run::put;
 
 // Two lists and not one of pairs: the rules speak of the marked cells and of the covered ones apart, each as a list.
 #[derive(Clone, Copy)]
@@ -37,22 +38,13 @@ impl Secrets {
     }
 }
 
-// Yes at the cell, if the table has it. It is written by index, since no contract of `get_mut` says what it leaves.
-fn set_yes(table: &mut [bool], cell: usize)
-    ensures { table.new ≡ slice_set table.old cell true }
-{
-    if cell < table.len() {
-        table[cell] = true;
-    }
-}
-
 // The table of a sheet's mark list: yes at each cell of the list.
 fn marked_table(list: &[u8]) -> [bool; 64]
     ensures { Marks list.now result }
 {
     let mut table = [false; 64];
     for cell in list {
-        set_yes(&mut table, *cell as usize);
+        put(&mut table, *cell as usize, true);
     }
     table
 }

@@ -6,7 +6,7 @@ use crate::registers::{Level, Registers};
 use crate::slots::put;
 
 impl Registers {
-    // Nothing is set.
+    // Nothing is set. A derived default says less of an array than this clause.
     pub fn new() -> Registers
         ensures { result ≡ cleared }
     {

@@ -18,5 +18,6 @@ pub use faults::RunFault;
 pub use judging::judge;
 pub use machine::{is_over, run_steps, step};
 pub use registers::{Level, Registers};
+pub use slots::put;
 pub use track::Track;
 pub use verdicts::{Verdict, path_verdict};

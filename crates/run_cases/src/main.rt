@@ -27,7 +27,7 @@ fn read_case(heap: Global, text: &str) -> anyhow::Result<Case> {
         .map(|word| -> anyhow::Result<u32> { Ok(word.parse::<u32>()?) })
         .try_collect::<Vec<u32>>(heap)?;
     ensure!(cells.len() == count, "a cell is missing");
-    // The sheet's bytes, as the programs of both tables read them: one chain, of which a function would say no more.
+    // The sheet's bytes. `sheet_cases` reads them by the same chain; a function for it would be no shorter.
     let bytes = words
         .map(|word| -> anyhow::Result<u8> { Ok(u8::from_str_radix(word, 16)?) })
         .try_collect::<Vec<u8>>(heap)?;

@@ -50,7 +50,15 @@ impl fmt::Display for Heading {
     ghost output = { λ h. Some (heading_name h) };
 
     fn fmt<W: fmt::Write>(&self, f: &mut fmt::Formatter<W>) -> fmt::Result {
-        f.write_str(match *self {
+        f.write_str(self.name())
+    }
+}
+
+impl Heading {
+    pub fn name(self) -> &'static str
+        ensures { result.now ≡ heading_name self }
+    {
+        match self {
             Heading::Sheet => "sheet",
             Heading::Kind => "kind",
             Heading::Tries => "tries",
@@ -59,11 +67,9 @@ impl fmt::Display for Heading {
             Heading::Tables => "tables",
             Heading::Working => "working",
             Heading::Answers => "answers",
-        })
+        }
     }
-}
 
-impl Heading {
     // Which line of this heading is one too many.
     pub fn count_refused(self) -> &'static str
         ensures { result.now ≡ count_refused self }

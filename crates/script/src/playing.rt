@@ -3,9 +3,10 @@ ghost use Rattle.std.specs.Prelude.{◌≡◌, min};
 
 use crate::headings::{Base, Lengths, ValueKind};
 use crate::reading::Script;
-use crate::telling::{Told, cards_alike, cards_line, pair_text, refused_text, round_text};
+use crate::telling::{Told, cards_alike, cards_line, pair_text, round_text};
 use onepath::Step;
 use protocol::{Answer, Call};
+use report::refusal_line;
 use session::{Board, play_list, play_pair};
 use sheet::Line;
 use std::alloc::{AllocError, Global};
@@ -120,7 +121,7 @@ impl<'a> Playing<'a> {
             &mut seat.answers,
         );
         if let Err(fault) = played {
-            return refused_text(heap, fault);
+            return refusal_line(heap, fault);
         }
         let watched = seat.watcher.to_string(heap)?;
         round_text(heap, script.words.as_slice(), seat.told(watched.as_str()))
@@ -160,7 +161,7 @@ impl<'a> Playing<'a> {
             &mut other.answers,
         );
         if let Err(fault) = played {
-            return refused_text(heap, fault);
+            return refusal_line(heap, fault);
         }
         self.cards(&one, &other)
     }

@@ -3,11 +3,9 @@ ghost use Rattle.std.specs.Prelude.{◌≡◌, ◌++◌, map, codes, IfOk, strin
 ghost use Rattle.std.specs.List.{zip};
 ghost use Rattle.protocol.specs.Promise.{shared};
 ghost use Rattle.protocol.specs.Texts.{answer_text};
-ghost use Rattle.sheet.specs.Words.{refusal_text};
 ghost use Rattle.script.specs.Texts.{call_lines, both_text, answers_text, round_text, pair_text, cards_text};
 
 use protocol::Answer;
-use sheet::{Fault, Refused};
 use std::alloc::{AllocError, Global};
 
 // What a round told: its answers, and its watcher in words.
@@ -15,14 +13,6 @@ use std::alloc::{AllocError, Global};
 pub struct Told<'a> {
     pub answers: &'a [Answer],
     pub watched: &'a str,
-}
-
-// The line that is printed of what is refused.
-pub fn refused_text<F: Fault>(heap: Global, fault: F) -> Result<String, AllocError>
-    ensures { IfOk result (λ s. string_bytes s ≡ refusal_text (F.numbered fault) (F.placed fault) ++ codes "\n") }
-{
-    let refused = Refused(fault);
-    format!(in heap; "{refused}\n")
 }
 
 // What two rounds tell: once where it is alike, else the first's and the second's.
@@ -87,7 +77,7 @@ fn call_lines(heap: Global, calls: &[String], tells: &[String]) -> Result<String
     Ok(text)
 }
 
-// The answers in words.
+// The answers in words. By a loop: the proof of what a chain with `try_collect` comes to did not close.
 fn answers_told(heap: Global, answers: &[Answer]) -> Result<Vec<String>, AllocError>
     ensures { IfOk result (λ told. map string_bytes told.items ≡ map answer_text answers.now) }
 {
@@ -98,7 +88,7 @@ fn answers_told(heap: Global, answers: &[Answer]) -> Result<Vec<String>, AllocEr
     Ok(told)
 }
 
-// The answers of two rounds in words.
+// The answers of two rounds in words, by a loop likewise.
 fn both_told(heap: Global, first: &[Answer], second: &[Answer]) -> Result<Vec<String>, AllocError>
     ensures { IfOk result (λ told. map string_bytes told.items ≡ map answers_text (zip first.now second.now)) }
 {

@@ -93,10 +93,9 @@ impl<'a> Words<'a> {
     ) -> Result<Vec<T>, LineFault>
         requires { F.IsAlwaysCallable read }
     {
-        let mut values = Vec::new(heap);
-        for word in self.left.by_ref() {
-            values.push(read(word)?)?;
-        }
-        Ok(values)
+        self.left
+            .by_ref()
+            .map(|word| -> Result<T, LineFault> { Ok(read(word)?) })
+            .try_collect(heap)
     }
 }

@@ -23,7 +23,7 @@ fn read_case(heap: Global, text: &str) -> anyhow::Result<Case> {
     let lines = words.next().context("no line table")?.parse::<usize>()?;
     let marks = words.next().context("no mark table")?.parse::<usize>()?;
     let steps = words.next().context("no step table")?.parse::<usize>()?;
-    // The sheet's bytes, as the programs of both tables read them: one chain, of which a function would say no more.
+    // The sheet's bytes. `run_cases` reads them by the same chain; a function for it would be no shorter.
     let bytes = words
         .map(|word| -> anyhow::Result<u8> { Ok(u8::from_str_radix(word, 16)?) })
         .try_collect::<Vec<u8>>(heap)?;

@@ -30,7 +30,6 @@ impl Value for Candidates {
     fn combine(op: u8, a: Candidates, b: Candidates) -> Candidates {
         let x = DigitSet::from(a.0);
         let y = DigitSet::from(b.0);
-        // Any byte may come as an operation, and means another one for numbers, so no enum names them.
         let z = match op {
             0 => x | y,
             1 => x - y,

@@ -96,7 +96,7 @@ impl Sub for DigitSet {
 }
 
 impl DigitSet {
-    // The set of the digit 1, or the empty set.
+    // The set of the digit 1, or the empty set. The name says which, as no conversion would.
     pub fn one_if(yes: bool) -> DigitSet
         ensures { result.bits ≡ flag yes }
     {

@@ -18,6 +18,7 @@ pub trait Value: Copy {
     fn literal(n: u32) -> Self
         ensures { meaning result ≡ literally n };
 
+    // Any byte may come as an operation, and each kind gives its own meaning to it, so no enum names them.
     fn combine(op: u8, a: Self, b: Self) -> Self
         ensures { meaning result ≡ combined op (meaning a) (meaning b) };
 

@@ -29,7 +29,6 @@ impl Value for Number {
     fn combine(op: u8, a: Number, b: Number) -> Number {
         let x = a.0;
         let y = b.0;
-        // Any byte may come as an operation, and means another one for sets of digits, so no enum names them.
         Number(match op {
             0 => x.wrapping_add(y),
             1 => x.wrapping_sub(y),
