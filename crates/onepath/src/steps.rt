@@ -9,7 +9,7 @@ use std::fmt;
 // place of a step, `line` the number of the loop's line, `counter` the number of an open loop's counter.
 #[derive(Clone, Copy)]
 pub enum Step {
-    // The line's operation on two cells.
+    // The line's operation on two cells, by its number, since each kind of values has its own.
     Work {
         level: usize,
         target: u8,

@@ -36,7 +36,8 @@ fn covered_cells(heap: Global, marks: &[bool]) -> Result<Vec<usize>, AllocError>
         .collect(heap)
 }
 
-// The two lines that are printed of a sheet that was converted.
+// The two lines that are printed of a sheet that was converted. One text of two parts; `Display` would want a struct for
+// it.
 fn path_report(heap: Global, marks: &[bool], steps: &[Step]) -> Result<String, AllocError>
     ensures { IfOk result (λ s. string_bytes s ≡ path_text marks.now steps.now) }
 {
@@ -56,5 +57,19 @@ pub fn sheet_report(heap: Global, bytes: &[u8]) -> Result<String, AllocError>
     match convert(bytes, &mut lines, &mut marks, &mut steps) {
         Ok(path) => path_report(heap, &marks[0..path.sheet.cells], &steps[0..path.steps]),
         Err(fault) => refusal_line(heap, fault),
+    }
+}
+
+#[cfg(test)]
+mod tests {
+    use super::refusal_line;
+    use onepath::ConvertFault;
+
+    #[test]
+    fn tells_a_refusal(rt: HostRuntime) {
+        match refusal_line(rt.alloc(), ConvertFault::Table) {
+            Ok(line) => assert!(rt; line.as_str() == "refused 7 at 3\n"),
+            Err(_) => assert!(rt; false),
+        }
     }
 }

@@ -16,7 +16,7 @@ fn member_cells(heap: Global, origins: &Origins) -> Result<Vec<u8>, AllocError>
     (0..64).filter(|cell| origins.contains(*cell)).collect(heap)
 }
 
-// The cell and the members of its origin set.
+// The cell and the members of its origin set. One text of two parts; `Display` would want a struct for it.
 fn origin_line(heap: Global, cell: usize, origins: &Origins) -> Result<String, AllocError>
     ensures { IfOk result (λ s. string_bytes s ≡ origin_line cell origins.now) }
 {

@@ -25,7 +25,7 @@ pub fn write<V: Value>(cells: &mut [V], x: usize, value: V)
     put(cells, x, value);
 }
 
-// What a work line does.
+// What a work line does. Its operation is a number, since each kind of values has its own.
 pub(crate) fn work<V: Value>(cells: &mut [V], target: u8, op: u8, a: u8, b: u8)
     ensures { map V.Value.meaning cells.new ≡ worked (kind_of V.Value) target op a b (map V.Value.meaning cells.old) }
 {

@@ -73,6 +73,7 @@ fn both<V: Value>(heap: Global, case: &Case) -> Result<String, AllocError> {
 fn main(rt: HostRuntime) -> anyhow::Result<()> {
     let heap = rt.alloc();
     let table = io::read_to_string(heap, rt.stdin())?;
+    // `sheet_cases` has a loop like this; they read other words.
     for line in table.lines() {
         let (name, rest) = line.split_once(' ').context("no case")?;
         let (kind, rest) = rest.split_once(' ').context("no kind")?;

@@ -55,6 +55,7 @@ impl fmt::Display for Heading {
 }
 
 impl Heading {
+    // Its name, as it stands in the program: it cannot fail, as printing can, so it stands beside `Display`.
     pub fn name(self) -> &'static str
         ensures { result.now ≡ heading_name self }
     {
@@ -70,7 +71,7 @@ impl Heading {
         }
     }
 
-    // Which line of this heading is one too many.
+    // Which line of this heading is one too many: a word of the program, which cannot fail, as printing can.
     pub fn count_refused(self) -> &'static str
         ensures { result.now ≡ count_refused self }
     {

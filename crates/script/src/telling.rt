@@ -55,7 +55,7 @@ fn all_alike(first: &[Answer], second: &[Answer]) -> bool
             .all(|(one, other)| one == other)
 }
 
-// The line that says so.
+// The line that says so: words of the program, which cannot fail, as printing can.
 pub fn cards_line(alike: bool) -> &'static str
     ensures { result.now ≡ cards_text alike }
 {
@@ -101,7 +101,8 @@ fn both_told(heap: Global, first: &[Answer], second: &[Answer]) -> Result<Vec<St
     Ok(told)
 }
 
-// The lines of a round: each call with its answer, and the watcher.
+// The lines of a round: each call with its answer, and the watcher. One text of several parts; `Display` would want a
+// struct for it.
 pub fn round_text(heap: Global, calls: &[String], told: Told) -> Result<String, AllocError>
     ensures { IfOk result (λ s. string_bytes s ≡ round_text (map string_bytes calls.now) told.entry.answers.now told.entry.watched.now) }
 {
@@ -112,7 +113,7 @@ pub fn round_text(heap: Global, calls: &[String], told: Told) -> Result<String, 
     Ok(text)
 }
 
-// The same of two rounds.
+// The same of two rounds, and no `Display` for the same reason.
 pub fn pair_text(
     heap: Global,
     calls: &[String],

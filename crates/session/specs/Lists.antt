@@ -38,7 +38,7 @@ desk_of r setter working watcher = record { rec = r; setter = setter; working = 
 abbrev pub desk_at : {V W : Type 0} → Record → Board V W → Desk V W
 desk_at r b = desk_of r b.setter.now b.working.now b.watcher.now
 
--- the same loans, whatever they hold
+-- The same loans, whatever they hold. Each call says so: no type says what holds of a value at two moments.
 abbrev pub SameBoard : {V W : Type 0} → Board V W → Board V W → Type 0
 SameBoard b c = (c.setter.ghost_name ≡ b.setter.ghost_name) × (c.working.ghost_name ≡ b.working.ghost_name) × (c.watcher.ghost_name ≡ b.watcher.ghost_name)
 

@@ -37,7 +37,7 @@ tables_of lines marks steps = record { lines = lines; marks = marks; steps = ste
 abbrev pub holds : LentTables → Tables
 holds t = tables_of t.lines.now t.marks.now t.steps.now
 
--- they are the same loans
+-- They are the same loans. Each call says so: no type says what holds of a value at two moments.
 abbrev pub SameTables : LentTables → LentTables → Type 0
 SameTables t u =
     (u.lines.ghost_name ≡ t.lines.ghost_name) ×

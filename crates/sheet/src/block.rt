@@ -15,7 +15,8 @@ pub struct Block<'a> {
     ghost reads: { ∥ IsCode lines.now from to ∥₁ },
 }
 
-// What a block is made of: lines that open nothing, and constructs with their blocks.
+// What a block is made of: lines that open nothing, and constructs with their blocks. An operation is its number, since
+// each kind of values has its own.
 #[derive(Clone, Copy)]
 pub enum Construct<'a> {
     Work {

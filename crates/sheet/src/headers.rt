@@ -2,6 +2,7 @@
 #[derive(Clone, Copy)]
 pub struct Sheet<'a> {
     pub cells: usize,
+    // How many lines of a lent table are the sheet's: a number alone, since the table is its caller's.
     pub lines: usize,
     pub verdict: usize,
     pub marks: &'a [u8],

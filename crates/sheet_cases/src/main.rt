@@ -55,6 +55,7 @@ fn outcome(heap: Global, case: &Case) -> Result<String, AllocError> {
 fn main(rt: HostRuntime) -> anyhow::Result<()> {
     let heap = rt.alloc();
     let table = io::read_to_string(heap, rt.stdin())?;
+    // `run_cases` has a loop like this; they read other words.
     for line in table.lines() {
         let (name, rest) = line.split_once(' ').context("no case")?;
         let case = read_case(heap, rest)?;

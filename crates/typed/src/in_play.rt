@@ -21,6 +21,7 @@ pub struct InPlay {
 }
 
 impl InPlay {
+    // Each phase has this for itself, since the phases are two types.
     pub fn number(&self) -> u32
         ensures { result ≡ self.now.number }
     {

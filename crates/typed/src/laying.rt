@@ -31,6 +31,7 @@ impl Laying {
         Laying { number }
     }
 
+    // Each phase has this for itself, since the phases are two types.
     pub fn number(&self) -> u32
         ensures { result ≡ self.now.number }
     {
