@@ -142,12 +142,13 @@ fn read_lines(heap: Global, text: &str) -> Result<Script, ScriptFault> {
         calls: Vec::new(heap),
         words: Vec::new(heap),
     };
+    // The number of the line that was read last.
+    let mut read: usize = 0;
     for (before, line) in text.lines().enumerate() {
-        reading
-            .add(heap, line)
-            .map_err(|fault| fault.at(before.saturating_add(1)))?;
+        read = before.saturating_add(1);
+        reading.add(heap, line).map_err(|fault| fault.at(read))?;
     }
-    let end = text.lines().count().saturating_add(1);
+    let end = read.saturating_add(1);
     reading
         .finish()
         .map_err(|expected| LineFault::Unlike(expected).at(end))

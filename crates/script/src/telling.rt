@@ -66,39 +66,35 @@ pub fn cards_line(alike: bool) -> &'static str
     }
 }
 
-// The calls, each with what is told of it.
-fn call_lines(heap: Global, calls: &[String], tells: &[String]) -> Result<String, AllocError>
-    ensures { IfOk result (λ s. string_bytes s ≡ call_lines (map string_bytes calls.now) (map string_bytes tells.now)) }
+// The calls, each with what a round told of it. Each line is written as it is told, so that nothing is held beside the
+// text.
+fn round_lines(heap: Global, calls: &[String], answers: &[Answer]) -> Result<String, AllocError>
+    ensures { IfOk result (λ s. string_bytes s ≡ call_lines (map string_bytes calls.now) (map answer_text answers.now)) }
 {
     let mut text = String::new(heap);
-    for (call, told) in calls.iter().zip(tells) {
-        writeln!(text, "{call}: {told}")?;
+    for (call, answer) in calls.iter().zip(answers) {
+        writeln!(text, "{call}: {answer}")?;
     }
     Ok(text)
 }
 
-// The answers in words. By a loop: the proof of what a chain with `try_collect` comes to did not close.
-fn answers_told(heap: Global, answers: &[Answer]) -> Result<Vec<String>, AllocError>
-    ensures { IfOk result (λ told. map string_bytes told.items ≡ map answer_text answers.now) }
+// The same of two rounds.
+fn pair_lines(
+    heap: Global,
+    calls: &[String],
+    first: &[Answer],
+    second: &[Answer],
+) -> Result<String, AllocError>
+    ensures { IfOk result (λ s. string_bytes s ≡ call_lines (map string_bytes calls.now) (map answers_text (zip first.now second.now))) }
 {
-    let mut told = Vec::new(heap);
-    for answer in answers {
-        told.push(answer.to_string(heap)?)?;
-    }
-    Ok(told)
-}
-
-// The answers of two rounds in words, by a loop likewise.
-fn both_told(heap: Global, first: &[Answer], second: &[Answer]) -> Result<Vec<String>, AllocError>
-    ensures { IfOk result (λ told. map string_bytes told.items ≡ map answers_text (zip first.now second.now)) }
-{
-    let mut told = Vec::new(heap);
-    for (one, other) in first.iter().zip(second) {
+    let mut text = String::new(heap);
+    for (call, (one, other)) in calls.iter().zip(first.iter().zip(second)) {
         let one_told = one.to_string(heap)?;
         let other_told = other.to_string(heap)?;
-        told.push(both(heap, one_told.as_str(), other_told.as_str())?)?;
+        let told = both(heap, one_told.as_str(), other_told.as_str())?;
+        writeln!(text, "{call}: {told}")?;
     }
-    Ok(told)
+    Ok(text)
 }
 
 // The lines of a round: each call with its answer, and the watcher. One text of several parts; `Display` would want a
@@ -106,8 +102,7 @@ fn both_told(heap: Global, first: &[Answer], second: &[Answer]) -> Result<Vec<St
 pub fn round_text(heap: Global, calls: &[String], told: Told) -> Result<String, AllocError>
     ensures { IfOk result (λ s. string_bytes s ≡ round_text (map string_bytes calls.now) told.entry.answers.now told.entry.watched.now) }
 {
-    let tells = answers_told(heap, told.answers)?;
-    let mut text = call_lines(heap, calls, tells.as_slice())?;
+    let mut text = round_lines(heap, calls, told.answers)?;
     text.push_str(told.watched)?;
     text.push('\n')?;
     Ok(text)
@@ -122,8 +117,7 @@ pub fn pair_text(
 ) -> Result<String, AllocError>
     ensures { IfOk result (λ s. string_bytes s ≡ pair_text (map string_bytes calls.now) first.entry.answers.now first.entry.watched.now second.entry.answers.now second.entry.watched.now) }
 {
-    let tells = both_told(heap, first.answers, second.answers)?;
-    let mut text = call_lines(heap, calls, tells.as_slice())?;
+    let mut text = pair_lines(heap, calls, first.answers, second.answers)?;
     let watched = both(heap, first.watched, second.watched)?;
     text.push_str(watched.as_str())?;
     text.push('\n')?;
